@@ -32,6 +32,11 @@ abbrev pub andThen : {T U E : Type 0} → Result T E → (T → Result U E) → 
 andThen (Ok x) f = f x
 andThen (Err e) f = Err e
 
+-- what is left after a call: changed where it answers, and as it was where it refuses
+abbrev pub ifOk : {T E S : Type 0} → Result T E → (T → S) → S → S
+ifOk (Ok x) change same = change x
+ifOk (Err e) change same = same
+
 -- a part that starts at `place` is refused: so is the whole
 abbrev pub within : {T : Type 0} → Layer → ℕ → Result T Reading → Result T Reading
 within layer place (Ok x) = Ok x
