@@ -1,12 +1,14 @@
 -- The steps and the ends of the loops that look for a byte, and for a line, that is not zero. Assumes nothing.
-use mathlib.Core.Path.{_≡_, sym, _∙_}
+use mathlib.Core.Path.{_≡_, sym, ap, _∙_}
+use mathlib.Core.Logic.{inl, inr}
+use native.Mathlib.Omega.{arith}
 use mathlib.Core.Bool.{Bool, _&&_, not, cond, true, false}
 use mathlib.Core.List.{List, []}
 use lib.Dec.{eqb, leb}
-use lib.ListN.{length, getD, drop}
-use Prim.Native.Nat.{ℕ, _<_, _≤_, _+_, _*_}
-use Rattle.std.proofs.shelf.Lists.{at-drop-more, at-drop-all}
-use Rattle.std.proofs.shelf.Tests.{eq-eqb, ne-eqb, le-leb, lt-leb}
+use lib.ListN.{length, getD, take, drop}
+use Prim.Native.Nat.{ℕ, _<_, _≤_, _+_, _*_, _-_, min}
+use Rattle.std.proofs.shelf.Lists.{at-drop-more, at-drop-all, take-all}
+use Rattle.std.proofs.shelf.Tests.{eq-eqb, ne-eqb, le-leb, lt-leb, cases-lt}
 use Rattle.std.specs.declared.option.Option.{Option}
 use Rattle.std.specs.declared.option.Option.the-variants.{Some, None}
 use Rattle.docket.specs.Layout.{blank, wrongLine}
@@ -40,3 +42,11 @@ line-stop k ls i h inv u z = let e = line-step k ls i h in let b = le-leb k i u 
 
 pub line-all : (k : ℕ) (ls : List (List ℕ)) (i : ℕ) → length ls ≤ i → wrongLine k i (drop i ls) ≡ wrongLine k 0 ls → None ≡ wrongLine k 0 ls
 line-all k ls i h inv = sym (at-drop-all (wrongLine k i) ls i h) ∙ inv
+
+-- a front that is cut at the list's end is that front
+pub front-held : (ls : List (List ℕ)) (k e : ℕ) → length ls ≡ 4 → e ≡ min 4 k → take (e - 0) ls ≡ take k ls
+front-held ls k e h m =
+    elim (cases-lt k 4) [
+      | inl less ↦ let f : e - 0 ≡ k = omega arith in ap (λ n. take n ls) f
+      | inr more ↦ take-all (e - 0) ls (omega arith) ∙ sym (take-all k ls (omega arith))
+    ]

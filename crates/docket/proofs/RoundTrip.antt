@@ -166,7 +166,6 @@ reads-back d s =
     same-docket p n (cc)
 
 clear-since : (d : Docket) (clear : Bool) → None ≡ wrongPlace d clear → clear ≡ true
-unfolding wrongPlace
 clear-since d true e = refl
 clear-since d false e = grind (arith, tells)
 

@@ -42,7 +42,7 @@ wrongLine k i [] = None
 wrongLine k i (l ∷ ls) = cond (leb k i && not (blank l)) (Some (16 + 16 * i)) (wrongLine k (i + 1) ls)
 
 -- the offset of the first wrong field or line, in layout order; `clear` says that bytes 6 and 7 are zero
-unfoldable pub wrongPlace : Docket → Bool → Option ℕ
+abbrev pub wrongPlace : Docket → Bool → Option ℕ
 wrongPlace d clear =
     cond (ltb 63 (d .account)) (Some 4)
     (cond (eqb (d .count) 0 || ltb 4 (d .count)) (Some 5)
@@ -93,3 +93,7 @@ writeAnswer d out =
 
 unfoldable pub writeBuffer : Docket → List ℕ → List ℕ
 writeBuffer d out = ifOk (writeAnswer d out) (λ _. encoded d ++ drop 80 out) out
+
+-- the lines that are used
+abbrev pub usedLines : Docket → List (List ℕ)
+usedLines d = take (d .count) (d .lines)

@@ -9,7 +9,7 @@ ghost use Rattle.std.specs.Orderings.{Decides};
 ghost use Rattle.std.specs.declared.result.Result.the-variants.{Ok};
 ghost use Rattle.refusals.specs.Reading.{judged};
 ghost use Rattle.docket.specs.Faults.{docketReading};
-ghost use Rattle.docket.specs.Layout.{blank, wrongLine, wrongPlace, decoded, encoded, Sized, readDocket, writeAnswer, writeBuffer};
+ghost use Rattle.docket.specs.Layout.{blank, wrongLine, wrongPlace, decoded, encoded, Sized, readDocket, writeAnswer, writeBuffer, usedLines};
 
 pub mod faults;
 
@@ -87,6 +87,14 @@ impl Docket {
         put(&mut out, 48, &self.lines[2]);
         put(&mut out, 64, &self.lines[3]);
         out
+    }
+
+    // The lines that count, in their order.
+    pub fn used_lines(&self) -> &[[u8; 16]]
+        ensures { λ r. ⌜ now r ≡ usedLines (now (self .entry)) ⌝ }
+    {
+        let end = self.lines.len().min(self.count as usize);
+        &self.lines[0..end]
     }
 
     // The offset of the first wrong field or line. `clear` says that the reserved bytes are zero.

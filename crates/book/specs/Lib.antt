@@ -1,0 +1,4 @@
+pub mod Fault
+pub mod Law
+pub mod Line
+pub mod Pallets
