@@ -1,3 +1,3 @@
 mod Lines
 mod Answered
-mod RoundTrip
+pub mod RoundTrip

@@ -7,14 +7,16 @@ use native.Mathlib.Omega.{arith}
 use native.Mathlib.Nat.{div-div-eq-div-mul, div-eq-of-lt}
 use lib.ListN.{length, getD, take, drop}
 use lib.Dec.{eqb, lit<, lit≤}
-use Rattle.std.proofs.shelf.Lists.{drop-more, drop-drop, drop-all, take-append-drop, append-nil, append-assoc, take-at, drop-at, take-all}
+use Rattle.std.proofs.shelf.Lists.{drop-more, drop-drop, drop-all, take-append-drop, append-nil, append-assoc, take-at, drop-at, take-all, length-append}
 use Rattle.std.specs.Holes.{between}
 use Rattle.std.proofs.shelf.Edits.{getD-between, between-more, between-none}
 use Rattle.std.proofs.shelf.Tests.{and-parts, eqb-true}
 use Rattle.std.proofs.shelf.Ways.{tells}
+use Rattle.std.specs.declared.option.Option.{Option}
 use Rattle.std.specs.declared.option.Option.the-variants.{Some, None}
 use Rattle.std.specs.declared.result.Result.the-variants.{Ok, Err}
 use Rattle.std.specs.Orderings.{Decides}
+use Rattle.refusals.proofs.Steps.{never, ok-if}
 use Rattle.docket.proofs.Answered.{read-by-place}
 use Rattle.docket.specs.declared.Docket.{Docket}
 use Rattle.docket.specs.Layout.{blank, wrongPlace, unlessWrong, fromBytes4, fromBytes8, bytes4, bytes8, decoded, encoded, Sized, readDocket}
@@ -23,7 +25,7 @@ use Rattle.docket.specs.Layout.{blank, wrongPlace, unlessWrong, fromBytes4, fr
 by256 : (n k m : ℕ) → k * 256 ≡ m → n / m ≡ n / k / 256
 by256 n k m e = ap (λ x. n / x) (sym e) ∙ sym (div-div-eq-div-mul n k 256)
 
-value4 : (n : ℕ) → n < 4294967296 → fromBytes4 (bytes4 n) ≡ n
+pub value4 : (n : ℕ) → n < 4294967296 → fromBytes4 (bytes4 n) ≡ n
 value4 n h =
     let p = by256 n 256 65536 refl in
     let q = by256 n 65536 16777216 refl in
@@ -41,7 +43,7 @@ value8 n h =
     let top : n / 72057594037927936 / 256 ≡ 0 = sym (by256 n 72057594037927936 18446744073709551616 refl) ∙ div-eq-of-lt h in
     omega arith
 
-digits4 : (a b c d : ℕ) → a < 256 → b < 256 → c < 256 → d < 256 → bytes4 (a * 16777216 + b * 65536 + c * 256 + d) ≡ a ∷ b ∷ c ∷ d ∷ []
+pub digits4 : (a b c d : ℕ) → a < 256 → b < 256 → c < 256 → d < 256 → bytes4 (a * 16777216 + b * 65536 + c * 256 + d) ≡ a ∷ b ∷ c ∷ d ∷ []
 digits4 a b c d a< b< c< d< =
     let n : ℕ = a * 16777216 + b * 65536 + c * 256 + d in
     let e0 : n / 16777216 % 256 ≡ a = omega arith in
@@ -186,6 +188,35 @@ pub reads :
     → front ≡ encoded d → readDocket front ≡ Ok d
 reads d part front s w e l f =
     ap readDocket f ∙ sym (read-by-place (encoded d) d true None (ap length (sym e) ∙ l) (sym (reads-back d s)) (clear-encoded d) w)
+
+-- what a reading says
+pub record Read (bs : List ℕ) (d : Docket) : Type 0 where
+  pub long : length bs ≡ 80
+  pub is : d ≡ decoded bs
+  pub fine : None ≡ wrongPlace d (blank (between 6 8 bs))
+
+unless-none : (x d : Docket) (o : Option ℕ) → unlessWrong x o ≡ Ok d → (d ≡ x) × (None ≡ o)
+unless-none x d None h = (cc, refl)
+unless-none x d (Some place) h = absurd (never _ d h)
+
+pub read-says : (bs : List ℕ) (d : Docket) → readDocket bs ≡ Ok d → Read bs d
+unfolding readDocket
+read-says bs d h =
+    let p = ok-if _ _ _ d h in
+    let q = unless-none (decoded bs) d _ (p .1) in
+    record { long = eqb-true _ _ (p .0); is = q .0; fine = q .1 ∙ ap (λ x. wrongPlace x (blank (between 6 8 bs))) (sym (q .0)) }
+
+-- what is read is written as the same bytes
+pub read-encoded : (bs : List ℕ) (d : Docket) → ((i : ℕ) → getD bs i 0 < 256) → readDocket bs ≡ Ok d → encoded d ≡ bs
+read-encoded bs d b h = let r = read-says bs d h in read-same bs d _ b (r .long) (r .is) refl (r .fine)
+
+pub length-encoded : (d : Docket) → Sized d → length (encoded d) ≡ 80
+unfolding encoded
+length-encoded d s = simp length-append (omega arith)
+
+-- what is written is read as it was, if at all
+pub read-written : (d e : Docket) → Sized d → readDocket (encoded d) ≡ Ok e → e ≡ d
+read-written d e s h = read-says (encoded d) e h .is ∙ reads-back d s
 
 -- dockets with the same bytes are equal
 pub same-from-bytes : (x y : Docket) (r : Bool) (a b : List ℕ) → Sized x → Sized y → a ≡ encoded x → b ≡ encoded y → Decides r (a ≡ b) → Decides r (x ≡ y)

@@ -1,0 +1,6 @@
+mod Parts
+mod Rows
+mod Head
+pub mod Accepted
+mod RoundTrip
+mod Written

@@ -1,0 +1,2 @@
+mod Seals
+mod Calls
