@@ -4,6 +4,7 @@ use crate::faults::BoxFault;
 use settling::Accounts;
 
 // A cold box: a validator that keeps the whole book and settles certified dockets, and does not countersign.
+#[derive(Drop)]
 pub struct ColdBox<B, C> {
     // The pool's number.
     pub(crate) pool: u32,
@@ -20,6 +21,7 @@ pub struct ColdBox<B, C> {
 }
 
 // A setup that was refused: why, and the book and the checker as they were.
+#[derive(Drop)]
 pub struct SetUpRefused<B, C> {
     pub fault: BoxFault,
     pub book: B,
