@@ -9,8 +9,11 @@ mod fault;
 mod roll;
 
 pub use fault::CheckerFault;
+pub use fault::CheckerFaultDebug;
 pub use fault::CheckerFaultDisplay;
+pub use fault::CheckerFaultEq;
 pub use fault::CheckerFaultFault;
+pub use fault::CheckerFaultPartialEq;
 pub use roll::Roll;
 pub use roll::RollChecker;
 

@@ -1,2 +1,3 @@
 pub mod Window
 pub mod Settle
+pub mod Order

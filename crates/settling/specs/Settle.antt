@@ -41,7 +41,7 @@ coveredOf valid next s (Some d) = covered valid next s d
 abbrev pub ready : {State : Type 0} → (State → ℕ → List ℕ → Bool) → (State → ℕ → List ℕ → State) → State → Account → Option State
 ready valid next s a = coveredOf valid next s (waiting a (a .next))
 
--- the lowest ready account, counted from i, and the state after its docket
+-- the first of two that is there, and a value with the index where it was found
 abbrev pub orElse : {T : Type 0} → Option T → Option T → Option T
 orElse (Some x) other = Some x
 orElse None other = other
@@ -50,6 +50,7 @@ abbrev pub withIndex : {T : Type 0} → ℕ → Option T → Option (ℕ × T)
 withIndex i None = None
 withIndex i (Some x) = Some (i, x)
 
+-- the lowest ready account, counted from i, and the state after its docket
 abbrev pub lowestReady : {State : Type 0} → (State → ℕ → List ℕ → Bool) → (State → ℕ → List ℕ → State) → ℕ → State → List Account → Option (ℕ × State)
 lowestReady valid next i s [] = None
 lowestReady valid next i s (a ∷ rest) = orElse (withIndex i (ready valid next s a)) (lowestReady valid next (i + 1) s rest)
