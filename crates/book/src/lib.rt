@@ -14,6 +14,7 @@ pub use fault::BookFaultDisplay;
 pub use fault::BookFaultEq;
 pub use fault::BookFaultFault;
 pub use fault::BookFaultPartialEq;
+pub use pallets::LAST_ACCOUNT;
 pub use pallets::PalletBook;
 pub use pallets::PalletRules;
 

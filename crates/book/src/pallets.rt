@@ -10,7 +10,8 @@ ghost use Rattle.std.specs.shelf.Lists.{sum};
 use crate::Book;
 use crate::BookFault;
 
-const LAST_ACCOUNT: u8 = 63;
+// The accounts are 0 to 63.
+pub const LAST_ACCOUNT: u8 = 63;
 
 // The greatest sum of balances, and the greatest amount of one line.
 const MOST: u64 = 1 << 40;

@@ -4,6 +4,14 @@ use book::Book;
 use book::BookFaultDebug;
 use book::PalletBook;
 use book::PalletRules;
+use books::AllowanceRules;
+use books::BallotQuestion;
+use books::BallotRules;
+use books::PairAnswer;
+use books::PairAnswerPartialEq;
+use books::PairQuestion;
+use books::PairRules;
+use books::ship;
 use certificate::Certificate;
 use certificate::CertificateFault;
 use certificate::Signer;
@@ -220,4 +228,37 @@ fn printed(rt: LibcRuntime) -> Result<(), Fail> {
         text.as_str(),
         "box: refusal 1 at 0, malformed; certificate: refusal 1 at 28, malformed; docket: refusal 1 at 5, malformed",
     )
+}
+
+// A line that votes on a topic.
+fn vote(topic: u8, choice: u8) -> [u8; 16] {
+    [2, topic, choice, 0, 0, 0, 0, 0, 0, 0, 0, 0, 0, 0, 0, 0]
+}
+
+// The same box over the shipped book: pallets and votes in one docket, and a vote twice that is never covered.
+#[test]
+fn shipped() -> Result<(), Fail> {
+    let mut cold = match ColdBox::set_up(7, 0, 1, ship(opening_balances(), 5)?, Trusting) {
+        Ok(cold) => cold,
+        Err(_) => return Err(Fail::new("set up")),
+    };
+    let mut four = one_pallet(0, 1);
+    four.count = 4;
+    four.lines[1] = vote(3, 2);
+    four.lines[2] = vote(4, 0);
+    four.lines[3] = vote(5, 1);
+    let mut twice = with(1, 2);
+    twice.lines[0] = vote(3, 1);
+    let mut back = one_pallet(1, 0);
+    back.count = 2;
+    back.lines[1] = vote(3, 2);
+    for (docket, answer) in [(twice, 0), (back, 0), (four, 2)] {
+        let mut bytes = [0u8; 128];
+        certify(&docket, true, 0, &mut bytes)?;
+        check_eq(hand_in(&mut cold, &bytes[0..114]), Answer::Settled(answer))?;
+    }
+    let mut out = [0u8; 80];
+    check(cold.waiting(0, 2, &mut out) && out == twice.to_bytes())?;
+    check(cold.ask(PairQuestion::First(0)) == PairAnswer::First(Some(1)))?;
+    check(cold.ask(PairQuestion::Second(BallotQuestion { topic: 3, choice: 2 })) == PairAnswer::Second(Some(2)))
 }

@@ -1,0 +1,4 @@
+pub mod Allowance
+pub mod Ballots
+pub mod Pair
+pub mod Shipped
