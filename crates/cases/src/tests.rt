@@ -260,5 +260,11 @@ fn shipped() -> Result<(), Fail> {
     let mut out = [0u8; 80];
     check(cold.waiting(0, 2, &mut out) && out == twice.to_bytes())?;
     check(cold.ask(PairQuestion::First(0)) == PairAnswer::First(Some(1)))?;
-    check(cold.ask(PairQuestion::Second(BallotQuestion { topic: 3, choice: 2 })) == PairAnswer::Second(Some(2)))
+    check(
+        cold.ask(PairQuestion::Second(BallotQuestion {
+            topic: 3,
+            choice: 2,
+        }))
+            == PairAnswer::Second(Some(2)),
+    )
 }

@@ -91,6 +91,9 @@ pub record Counted (total m : ℕ) (head : List ℕ) : Type 0 where
   pub blank3 : getD head 3 0 ≡ 0
   pub whole : 84 + 8 * m ≤ total
 
+one-up : (m : ℕ) → (m ≡ 0 → ⊥) → 1 ≤ m
+one-up m h = omega arith
+
 counted : (total m n : ℕ) (head : List ℕ) → readCount total m head ≡ Ok n → Counted total m head
 counted total m n head h =
     let a = ok-unless _ _ _ n h in
@@ -100,9 +103,8 @@ counted total m n head h =
     let m0 = or-parts _ _ (b .0) in
     let z = or-parts _ _ (c .0) in
     let zs = or-parts _ _ (z .1) in
-    let p = eqb-false m 0 (m0 .0) in
     record {
-      some = omega arith;
+      some = one-up m (eqb-false m 0 (m0 .0));
       most = ltb-false _ _ (m0 .1);
       blank1 = eqb-true _ _ (not-false _ (z .0));
       blank2 = eqb-true _ _ (not-false _ (zs .0));

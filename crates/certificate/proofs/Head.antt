@@ -1,5 +1,5 @@
 -- What a head gives, by what its parts give. Assumes nothing.
-use mathlib.Core.Path.{_≡_, sym, refl, _∙_, ap}
+use mathlib.Core.Path.{_≡_, sym, _∙_, ap}
 use mathlib.Core.List.{List}
 use mathlib.Core.Logic.{inl, inr}
 use Prim.Native.Nat.{ℕ, _+_, _-_, _*_, _≤_, min}

@@ -1,19 +1,18 @@
 -- What is written reads back equal, and what is read is written as the same bytes. Assumes nothing.
 use mathlib.Core.Path.{_≡_, sym, refl, _∙_, ap, subst}
 use mathlib.Core.List.{List, [], _∷_, _++_, map}
-use Prim.Native.Nat.{ℕ, zero, suc, _+_, _-_, _*_, _/_, _%_, _<_, _≤_}
+use Prim.Native.Nat.{ℕ, suc, _+_, _-_, _*_, _/_, _%_, _<_, _≤_}
 use native.Mathlib.Omega.{arith}
-use lib.Dec.{lit<}
 use lib.ListN.{length, getD, take, drop}
 use lib.Seq.{take-add}
 use Rattle.std.specs.Holes.{between}
 use Rattle.std.specs.Vec.{made}
 use Rattle.std.specs.declared.result.Result.{Result}
 use Rattle.std.specs.declared.result.Result.the-variants.{Ok, Err}
-use Rattle.std.proofs.shelf.Lists.{append-assoc, take-at, drop-at, take-all, take-append-drop, length-append, length-map, length-take-le, length-drop, length-take, drop-drop, getD-drop, getD-take}
+use Rattle.std.proofs.shelf.Lists.{append-assoc, take-at, drop-at, take-all, take-append-drop, length-append, length-map, length-take-le, length-drop, drop-drop, getD-drop, getD-take}
 use Rattle.std.proofs.shelf.Edits.{length-between}
 use Rattle.docket.specs.declared.Docket.{Docket}
-use Rattle.docket.specs.Layout.{bytes4, fromBytes4, encoded, Sized, readDocket}
+use Rattle.docket.specs.Layout.{bytes4, encoded, Sized, readDocket}
 use Rattle.docket.proofs.RoundTrip.{digits4, read-encoded, length-encoded, read-written}
 use Rattle.certificate.specs.Contents.{Contents, contents}
 use Rattle.certificate.specs.Table.{entryOf, placed, row, rows}

@@ -1,9 +1,9 @@
 -- The loop that reads the table. Assumes nothing.
 use mathlib.Core.Path.{_≡_, sym, refl, _∙_, ap}
 use mathlib.Core.List.{List, [], _∷_, _++_}
-use Prim.Native.Nat.{ℕ, suc, _<_, _≤_, _+_, _-_, _*_}
+use Prim.Native.Nat.{ℕ, suc, _<_, _+_, _-_, _*_}
 use native.Mathlib.Omega.{arith}
-use lib.ListN.{length, take, drop, set}
+use lib.ListN.{length, take, set}
 use Rattle.std.specs.Holes.{between}
 use Rattle.std.specs.declared.result.Result.{Result}
 use Rattle.std.specs.declared.result.Result.the-variants.{Ok, Err}
@@ -53,15 +53,18 @@ step :
 step boxes m i least place head t x r h inv e =
     ap (λ y. behind (take i t) (andThen y (rest boxes m i place head))) e ∙ (ap (behind (take i t)) (sym (left-more boxes m i least place head h)) ∙ inv)
 
+-- n and p are what the next entry is held to
 pub rows-more :
-    (boxes m i least place : ℕ) (head : List ℕ) (t : List Entry) (e : Entry) (r : Result (List Entry) Reading) → i < m → i < length t
-    → behind (take i t) (left boxes m i least place head) ≡ r
+    (boxes m i least place n p : ℕ) (head : List ℕ) (t : List Entry) (e : Entry) (r : Result (List Entry) Reading) → i < m → i < length t
+    → n ≡ e .signer .number + 1 → p ≡ place + e .signer .size → behind (take i t) (left boxes m i least place head) ≡ r
     → Ok e ≡ readRow boxes (4 + 8 * i) least place (between (4 + 8 * i) (4 + 8 * i + 8) head)
-    → behind (take (i + 1) (set t i e)) (left boxes m (i + 1) (e .signer .number + 1) (place + e .signer .size) head) ≡ r
-rows-more boxes m i least place head t e r h l inv good =
-    let n : Result (List Entry) Reading = left boxes m (i + 1) (e .signer .number + 1) (place + e .signer .size) head in
-    ap (λ es. behind es n) (take-more-set t i e l)
-    ∙ (behind-more (take i t) (e ∷ []) n ∙ step boxes m i least place head t (Ok e) r h inv good)
+    → behind (take (i + 1) (set t i e)) (left boxes m (i + 1) n p head) ≡ r
+rows-more boxes m i least place n p head t e r h l f g inv good =
+    let next : ℕ → ℕ → Result (List Entry) Reading = λ x y. left boxes m (i + 1) x y head in
+    ap (λ x. behind (take (i + 1) (set t i e)) (next x p)) f
+    ∙ (ap (λ y. behind (take (i + 1) (set t i e)) (next (e .signer .number + 1) y)) g
+    ∙ (ap (λ es. behind es (next (e .signer .number + 1) (place + e .signer .size))) (take-more-set t i e l)
+    ∙ (behind-more (take i t) (e ∷ []) (next (e .signer .number + 1) (place + e .signer .size)) ∙ step boxes m i least place head t (Ok e) r h inv good)))
 
 pub rows-stop :
     (boxes m i least place : ℕ) (head : List ℕ) (t : List Entry) (f : Reading) (r : Result (List Entry) Reading) → i < m
@@ -84,6 +87,7 @@ end-push place [] e = refl
 end-push place (x ∷ xs) e = end-push (place + x .signer .size) xs e
 
 pub end-more :
-    (start place i : ℕ) (t : List Entry) (e : Entry) → i < length t → sealsEnd start (take i t) ≡ place
-    → sealsEnd start (take (i + 1) (set t i e)) ≡ place + e .signer .size
-end-more start place i t e l inv = ap (sealsEnd start) (take-more-set t i e l) ∙ (end-push start (take i t) e ∙ ap (λ n. n + e .signer .size) inv)
+    (start place p i : ℕ) (t : List Entry) (e : Entry) → i < length t → p ≡ place + e .signer .size → sealsEnd start (take i t) ≡ place
+    → sealsEnd start (take (i + 1) (set t i e)) ≡ p
+end-more start place p i t e l g inv =
+    ap (sealsEnd start) (take-more-set t i e l) ∙ (end-push start (take i t) e ∙ (ap (λ n. n + e .signer .size) inv ∙ sym g))

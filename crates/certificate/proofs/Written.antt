@@ -10,7 +10,7 @@ use lib.ListN.{length, getD, take, drop}
 use Rattle.std.specs.declared.result.Result.{Result}
 use Rattle.std.specs.declared.result.Result.the-variants.{Ok, Err}
 use Rattle.std.proofs.shelf.Tests.{eq-eqb, lt-ltb, le-ltb, or-left, or-right, cond-true, cond-false}
-use Rattle.std.proofs.shelf.Lists.{append-assoc, append-nil, take-append-drop, take-at, drop-drop, at-drop-more, at-drop-all, length-append}
+use Rattle.std.proofs.shelf.Lists.{append-assoc, append-nil, take-append-drop, at-drop-more, at-drop-all}
 use Rattle.refusals.specs.Reading.{Reading, andThen, ifOk}
 use Rattle.docket.specs.declared.Docket.{Docket}
 use Rattle.docket.specs.Layout.{encoded, Sized}
@@ -23,18 +23,19 @@ use Rattle.certificate.proofs.RoundTrip.{length-head, head-back, written-read}
 
 -- the loop that writes the rows: `whole` is what the front holds in the end
 pub rows-put :
-    (i place : ℕ) (head out part whole : List ℕ) (ss : List Signer) (d : Signer) → i < length ss
+    (i place p : ℕ) (head out part whole : List ℕ) (ss : List Signer) (d : Signer) → i < length ss → p ≡ place + getD ss i d .size
     → take (4 + 8 * i) head ++ rows place (drop i ss) ≡ whole → part ≡ row (getD ss i d) place
     → take (4 + 8 * i + length part) out ≡ take (4 + 8 * i) head ++ part
-    → take (4 + 8 * (i + 1)) out ++ rows (place + getD ss i d .size) (drop (i + 1) ss) ≡ whole
-rows-put i place head out part whole ss d h inv p f =
-    let l : length part ≡ 8 = ap length p in
+    → take (4 + 8 * (i + 1)) out ++ rows p (drop (i + 1) ss) ≡ whole
+rows-put i place p head out part whole ss d h g inv w f =
+    let l : length part ≡ 8 = ap length w in
     let n : 4 + 8 * (i + 1) ≡ 4 + 8 * i + length part = omega arith in
     let q : List ℕ = rows (place + getD ss i d .size) (drop (i + 1) ss) in
-    ap (λ k. take k out ++ q) n
-    ∙ (ap (λ x. x ++ q) (f ∙ ap (λ x. take (4 + 8 * i) head ++ x) p)
+    ap (λ v. take (4 + 8 * (i + 1)) out ++ rows v (drop (i + 1) ss)) g
+    ∙ (ap (λ k. take k out ++ q) n
+    ∙ (ap (λ x. x ++ q) (f ∙ ap (λ x. take (4 + 8 * i) head ++ x) w)
     ∙ (append-assoc (take (4 + 8 * i) head) (row (getD ss i d) place) q
-    ∙ (ap (λ x. take (4 + 8 * i) head ++ x) (sym (at-drop-more (rows place) ss i d h)) ∙ inv)))
+    ∙ (ap (λ x. take (4 + 8 * i) head ++ x) (sym (at-drop-more (rows place) ss i d h)) ∙ inv))))
 
 pub rows-done :
     (i place : ℕ) (head whole : List ℕ) (ss : List Signer) → i ≡ length ss
@@ -54,20 +55,6 @@ head-made d ss h1 h2 h3 b e f g v l =
     let n : 84 + 8 * length ss ≡ 4 + 8 * length ss + length b = omega arith in
     let q : List ℕ = rows (84 + 8 * length ss) ss in
     ap (λ k. take k h3) n ∙ (g ∙ (ap (λ x. x ++ b) (f ∙ ap (λ x. x ++ q) e) ∙ ap (λ x. (length ss ∷ 0 ∷ 0 ∷ 0 ∷ []) ++ q ++ x) v))
-
--- the buffer, after the head is put at its start, and the seals behind it
-pub two-puts :
-    (out o1 o2 head seals : List ℕ) → take (0 + length head) o1 ≡ head
-    → drop (0 + length head) o1 ≡ drop (0 + length head) out
-    → take (length head + length seals) o2 ≡ take (length head) o1 ++ seals
-    → drop (length head + length seals) o2 ≡ drop (length head + length seals) o1
-    → o2 ≡ head ++ seals ++ drop (length head + length seals) out
-two-puts out o1 o2 head seals f s g t =
-    let z : 0 + length head ≡ length head = omega arith in
-    let a = take-append-drop (length head + length seals) o2 in
-    let b = drop-drop (length seals) (length head) o1 in
-    let c = drop-drop (length seals) (length head) out in
-    cc
 
 abbrev full : List Signer → List ℕ → ℕ
 full ss seals = 84 + 8 * length ss + length seals
@@ -122,18 +109,23 @@ buffer-same boxes d ss seals out f e = ap (λ x. ifOk x (λ n. headOf d ss ++ se
 -- o is the buffer after the n bytes are put at its start
 pub buffer-written :
     (boxes n : ℕ) (d : Docket) (ss : List Signer) (seals out o h : List ℕ) → Sized d → h ≡ headOf d ss → n ≡ 84 + 8 * length ss + length seals
-    → Ok n ≡ writeAnswer boxes d ss seals out → o ≡ h ++ seals ++ drop (length h + length seals) out → o ≡ writeBuffer boxes d ss seals out
+    → Ok n ≡ writeAnswer boxes d ss seals out → take (length h + length seals) o ≡ h ++ seals
+    → drop (length h + length seals) o ≡ drop (length h + length seals) out → o ≡ writeBuffer boxes d ss seals out
 unfolding writeBuffer
-buffer-written boxes n d ss seals out o h z e k a p =
+buffer-written boxes n d ss seals out o h z e k a f r =
     let l : length h + length seals ≡ n = omega (arith, ap length e ∙ length-head d ss z) in
-    p ∙ (ap (λ v. h ++ seals ++ drop v out) l ∙ (ap (λ v. v ++ seals ++ drop n out) e ∙ ap (λ x. ifOk x (λ m. headOf d ss ++ seals ++ drop m out) out) a))
+    sym (take-append-drop (length h + length seals) o)
+    ∙ (ap (λ x. x ++ drop (length h + length seals) o) f
+    ∙ (ap (λ x. h ++ seals ++ x) r
+    ∙ (ap (λ v. h ++ seals ++ drop v out) l
+    ∙ (ap (λ v. v ++ seals ++ drop n out) e ∙ ap (λ x. ifOk x (λ m. headOf d ss ++ seals ++ drop m out) out) a))))
 
 pub written-back :
-    (boxes n : ℕ) (d : Docket) (ss : List Signer) (seals out o h : List ℕ) (k : Contents) → Sized d → h ≡ headOf d ss
+    (boxes n : ℕ) (d : Docket) (ss : List Signer) (seals o h : List ℕ) (k : Contents) → Sized d → h ≡ headOf d ss
     → n ≡ 84 + 8 * length ss + length seals → Ok k ≡ readHead boxes (84 + 8 * length ss + length seals) (getD h 0 0) h
-    → o ≡ h ++ seals ++ drop (length h + length seals) out → readCertificate boxes (take n o) ≡ Ok (contentsOf d ss)
-written-back boxes n d ss seals out o h k z e m f p =
-    let l : length (h ++ seals) ≡ n = length-append h seals ∙ omega (arith, ap length e ∙ length-head d ss z) in
-    let t : take n o ≡ headOf d ss ++ seals = ap (take n) p ∙ (take-at (h ++ seals) (drop (length h + length seals) out) n l ∙ ap (λ v. v ++ seals) e) in
+    → take (length h + length seals) o ≡ h ++ seals → readCertificate boxes (take n o) ≡ Ok (contentsOf d ss)
+written-back boxes n d ss seals o h k z e m f p =
+    let l : length h + length seals ≡ n = omega (arith, ap length e ∙ length-head d ss z) in
+    let t : take n o ≡ headOf d ss ++ seals = ap (λ v. take v o) (sym l) ∙ (p ∙ ap (λ v. v ++ seals) e) in
     let r : Ok k ≡ readHead boxes (full ss seals) (length ss) (headOf d ss) = of-head boxes (full ss seals) d ss h (Ok k) e f in
     ap (readCertificate boxes) t ∙ (written-read boxes d ss seals z ∙ (sym r ∙ ap Ok (head-back boxes (full ss seals) d ss k z (sym r))))

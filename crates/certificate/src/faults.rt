@@ -34,8 +34,8 @@ pub enum CertificateFault {
 pub impl From<DocketFaultAt> for CertificateFault as CertificateFaultFromDocket {
     ghost converts = { λ e r. r ≡ Docket e };
 
-    fn from(inner: DocketFaultAt) -> CertificateFault {
-        CertificateFault::Docket(inner)
+    fn from(docket: DocketFaultAt) -> CertificateFault {
+        CertificateFault::Docket(docket)
     }
 }
 

@@ -2,7 +2,6 @@
 ghost use mathlib.Core.Path.{_≡_};
 ghost use Prim.Native.Nat.{_+_, _*_, _≤_, min};
 ghost use lib.ListN.{length, getD, take};
-ghost use Rattle.std.specs.Holes.{between};
 ghost use Rattle.std.specs.Vec.{made};
 ghost use Rattle.refusals.specs.Reading.{judged};
 ghost use Rattle.certificate.specs.Contents.{contents};
@@ -40,15 +39,12 @@ pub(crate) fn read_head(
     let count = read_count(total, head)?;
     let (table, end) = read_table(boxes, count, head)?;
     let docket = read_docket(head, 4 + 8 * count)?;
-    if_ending(
-        total,
-        end,
-        Certificate {
-            docket,
-            count,
-            table,
-        },
-    )
+    let certificate = Certificate {
+        docket,
+        count,
+        table,
+    };
+    if_ending(total, end, certificate)
 }
 
 // A certificate, if it ends where its seals do.
@@ -103,8 +99,8 @@ fn read_table(boxes: u8, count: usize, head: &[u8]) -> Result<([Entry; 13], u32)
     for i in 0..count {
         let at = 4 + 8 * i;
         let entry = read_row(boxes, at, least, place, &head[at..at + 8])?;
-        least = entry.signer.number as u16 + 1;
-        place += entry.signer.size as u32;
+        least = entry.signer.next_number();
+        place = entry.signer.next_place(place);
         table[i] = entry;
     }
     Ok((table, place))

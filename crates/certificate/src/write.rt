@@ -1,7 +1,7 @@
 // Writing a certificate.
 ghost use mathlib.Core.Path.{_≡_};
 ghost use mathlib.Core.List.{_++_};
-ghost use Prim.Native.Nat.{_+_, _*_, _≤_};
+ghost use Prim.Native.Nat.{ℕ, _+_, _*_, _≤_};
 ghost use lib.ListN.{length, take, drop};
 ghost use Rattle.std.specs.Vec.{made};
 ghost use Rattle.refusals.specs.Reading.{judged};
@@ -47,7 +47,7 @@ fn put_rows(head: &mut [u8; 188], signers: &[Signer])
     let mut place = 84 + 8 * signers.len() as u32;
     for (i, signer) in signers.iter().enumerate() {
         put(head, 4 + 8 * i, &row_of(*signer, place));
-        place += signer.size as u32;
+        place = signer.next_place(place);
     }
 }
 
@@ -72,7 +72,8 @@ fn row_of(signer: Signer, place: u32) -> [u8; 8]
 // Copies a head and the seals behind it to the start of the buffer.
 pub(crate) fn put_all(out: &mut [u8], head: &[u8], seals: &[u8])
     requires { ⌜ length (now head) + length (now seals) ≤ length (now out) ⌝ }
-    ensures { λ _. ⌜ now (out .exit) ≡ now (head .entry) ++ now (seals .entry) ++ drop (length (now (head .entry)) + length (now (seals .entry))) (now (out .entry)) ⌝ }
+    ensures front { λ _. ⌜ take (length (now (head .entry)) + length (now (seals .entry))) (now (out .exit)) ≡ now (head .entry) ++ now (seals .entry) ⌝ }
+    ensures rest { λ _. ⌜ drop (length (now (head .entry)) + length (now (seals .entry))) (now (out .exit)) ≡ drop (length (now (head .entry)) + length (now (seals .entry))) (now (out .entry)) ⌝ }
 {
     put(out, 0, head);
     put(out, head.len(), seals);
@@ -82,7 +83,7 @@ pub(crate) fn put_all(out: &mut [u8], head: &[u8], seals: &[u8])
 fn put(out: &mut [u8], at: usize, part: &[u8])
     requires { ⌜ at + length (now part) ≤ length (now out) ⌝ }
     ensures front { λ _. ⌜ take (at + length (now (part .entry))) (now (out .exit)) ≡ take at (now (out .entry)) ++ now (part .entry) ⌝ }
-    ensures rest { λ _. ⌜ drop (at + length (now (part .entry))) (now (out .exit)) ≡ drop (at + length (now (part .entry))) (now (out .entry)) ⌝ }
+    ensures rest { λ _. ⌜ ((n : ℕ) → at + length (now (part .entry)) ≤ n → drop n (now (out .exit)) ≡ drop n (now (out .entry))) ⌝ }
 {
     let end = at + part.len();
     out[at..end].copy_from_slice(part);

@@ -1,6 +1,6 @@
 -- What is written reads back equal, and what is read is written as the same bytes. Assumes nothing.
 use mathlib.Core.Path.{_≡_, sym, refl, _∙_, ap}
-use mathlib.Core.Bool.{Bool, true, false, cond, _&&_}
+use mathlib.Core.Bool.{Bool, true, false, _&&_}
 use mathlib.Core.List.{List, [], _∷_, _++_}
 use Prim.Native.Nat.{ℕ, _<_, _≤_, _+_, _*_, _/_, _%_, _-_}
 use native.Mathlib.Omega.{arith}
@@ -9,12 +9,12 @@ use lib.ListN.{length, getD, take, drop}
 use lib.Dec.{eqb, lit<, lit≤}
 use Rattle.std.proofs.shelf.Lists.{drop-more, drop-drop, drop-all, take-append-drop, append-nil, append-assoc, take-at, drop-at, take-all, length-append}
 use Rattle.std.specs.Holes.{between}
-use Rattle.std.proofs.shelf.Edits.{getD-between, between-more, between-none}
+use Rattle.std.proofs.shelf.Edits.{getD-between}
 use Rattle.std.proofs.shelf.Tests.{and-parts, eqb-true}
 use Rattle.std.proofs.shelf.Ways.{tells}
 use Rattle.std.specs.declared.option.Option.{Option}
 use Rattle.std.specs.declared.option.Option.the-variants.{Some, None}
-use Rattle.std.specs.declared.result.Result.the-variants.{Ok, Err}
+use Rattle.std.specs.declared.result.Result.the-variants.{Ok}
 use Rattle.std.specs.Orderings.{Decides}
 use Rattle.refusals.proofs.Steps.{never, ok-if}
 use Rattle.docket.proofs.Answered.{read-by-place}

@@ -1,2 +1,4 @@
 mod Seals
 mod Calls
+mod Fitting
+mod Order

@@ -1,3 +1,4 @@
 pub mod Faults
 pub mod Accept
 pub mod Box
+pub mod Order

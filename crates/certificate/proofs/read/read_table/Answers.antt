@@ -1,5 +1,5 @@
 use native.Mathlib.Omega.{arith}
-use mathlib.Core.Path.{sym, _∙_}
+use mathlib.Core.Path.{_∙_}
 use Rattle.std.proofs.shelf.Lists.{length-set}
 use Rattle.std.proofs.shelf.Results.{err-from-errBy}
 use Rattle.certificate.proofs.Rows.{rows-more, rows-stop, end-more}
@@ -12,9 +12,10 @@ returns-in-Break-entry c =
     rw (p .1, p .2) (record { entries = rows-stop _ _ (c .loop-i .i) _ (c .loop-i .place) _ (c .loop-i .table) _ _ (omega arith) (c .loop-i .inv .3) h; end = tt })
 
 pub loop-i-again : need.loop-i-again
-loop-i-again c = (
-  length-set (c .loop-i .table) (c .loop-i .i) _ ∙ c .loop-i .inv .0,
-  omega arith,
-  end-more _ (c .loop-i .place) (c .loop-i .i) (c .loop-i .table) _ (omega arith) (c .loop-i .inv .2),
-  rows-more _ _ (c .loop-i .i) _ (c .loop-i .place) _ (c .loop-i .table) _ _ (omega arith) (omega arith) (c .loop-i .inv .3) (c .in-Continue-entry .ensures tt),
-)
+loop-i-again c =
+    let p = c .next-place-place .ensures in (
+      length-set (c .loop-i .table) (c .loop-i .i) _ ∙ c .loop-i .inv .0,
+      omega (arith, p .bound),
+      end-more _ (c .loop-i .place) _ (c .loop-i .i) (c .loop-i .table) _ (omega arith) (p .value) (c .loop-i .inv .2),
+      rows-more _ _ (c .loop-i .i) _ (c .loop-i .place) _ _ _ (c .loop-i .table) _ _ (omega arith) (omega arith) (c .next-number-least .ensures) (p .value) (c .loop-i .inv .3) (c .in-Continue-entry .ensures tt),
+    )

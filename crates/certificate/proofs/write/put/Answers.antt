@@ -3,4 +3,4 @@ use Rattle.std.proofs.shelf.Parts.{overwrites}
 use Rattle.certificate.proofs.write.put.Needs as need
 
 pub returns : need.returns
-returns c = record { front = search (needs, overwrites); rest = search (needs, overwrites) }
+returns c = record { front = search (needs, overwrites); rest = λ n h. search (needs, overwrites) }

@@ -1,4 +1,4 @@
-use mathlib.Core.Path.{_≡_, refl}
+use mathlib.Core.Path.{refl}
 use Rattle.std.proofs.shelf.Results.{err-from-errBy}
 use Rattle.certificate.proofs.Written.{write-count, is-head, head-long, write-by, buffer-same, buffer-written, written-back}
 use Rattle.certificate.proofs.value.Certificate.write.Needs as need
@@ -31,10 +31,11 @@ returns c =
     let e = is-head (c .args .docket .now) (c .args .signers .now) (c .head-of-head .result) (c .head-of-head .ensures .front) in
     let z = c .head-of-head .ensures .sized in
     let w = c .in-Continue-written .ensures tt in
+    let o = c .put-all .ensures in
     let a = write-by (c .args .boxes) (c .args .docket .now) (c .args .signers .now) (c .args .seals .now) (c .args .out .now) _ _ _
     e (c .in-Continue-read-head .ensures tt) (w .answer) in
     record {
       answer = a;
-      buffer = buffer-written _ _ _ _ _ (c .args .out .now) (c .put-all .last .out) _ z e (w .bounds .0) a (c .put-all .ensures);
-      back = written-back _ _ _ _ (c .args .seals .now) (c .args .out .now) (c .put-all .last .out) _ _ z e (w .bounds .0) (c .in-Continue-read-head .ensures tt) (c .put-all .ensures);
+      buffer = buffer-written _ _ _ _ _ (c .args .out .now) (c .put-all .last .out) _ z e (w .bounds .0) a (o .front) (o .rest);
+      back = written-back _ _ _ _ (c .args .seals .now) (c .put-all .last .out) _ _ z e (w .bounds .0) (c .in-Continue-read-head .ensures tt) (o .front);
     }
