@@ -20,11 +20,10 @@ use docket::Docket;
 pub(crate) fn head_end(bytes: &[u8]) -> usize
     ensures { λ r. ⌜ r ≡ min (length (now (bytes .entry))) (84 + 8 * getD (now (bytes .entry)) 0 0) ⌝ }
 {
-    let count = match bytes.first() {
-        Some(count) => *count as usize,
+    match bytes.first() {
+        Some(count) => bytes.len().min(84 + 8 * *count as usize),
         None => 0,
-    };
-    bytes.len().min(84 + 8 * count)
+    }
 }
 
 // The certificate of which the head is given, and the length in all. It is read from the head alone.

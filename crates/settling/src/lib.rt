@@ -180,7 +180,7 @@ pub fn settle<B: Book>(book: &mut B, accounts: &mut Accounts) -> u32
 {
     book.keep();
     let mut count = 0;
-    while let Some(account) = attempt_lowest(book, &accounts.rows) {
+    'settling: while let Some(account) = attempt_lowest(book, &accounts.rows) {
         accounts.advance(account);
         count += 1;
     }
