@@ -1,5 +1,7 @@
 // Plays the accident that the box rules out: power is cut at four boxes while a docket is countersigned, and each is
 // then asked to countersign another docket under the used number.
+#![tactic(auto)]
+
 mod boxes;
 mod dockets;
 mod telling;

@@ -1,5 +1,7 @@
 // Reads a stream of certificates from standard input, hands them to box 0 of the bench's pool and prints what became
 // of each, a line each.
+#![tactic(auto)]
+
 use std::io::Read;
 use workbench::bench::bench_answers;
 

@@ -1,4 +1,6 @@
 // The book: a replicated state machine that settled lines move on.
+#![tactic(auto)]
+
 ghost use Rattle.std.specs.Prelude.{◌≡◌, ℕ, Bool, List, if◌then◌else◌};
 ghost use Rattle.book.specs.Law.{OnlyListed, WeaklyIndependent};
 

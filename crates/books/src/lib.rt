@@ -1,4 +1,6 @@
 // Books and layers over books, each in a file of its own, and the one that the pool ships.
+#![tactic(auto)]
+
 mod allowance;
 mod ballots;
 mod pair;

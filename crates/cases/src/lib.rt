@@ -1,4 +1,6 @@
 // Worked cases: proved of the definitions in one table, and run through the code.
+#![tactic(auto)]
+
 ghost use Rattle.cases.specs.Four.{PoolOfFour};
 ghost use Rattle.cases.specs.Sealed.{WorkedSeals};
 ghost use Rattle.cases.specs.Worked.{WorkedCases};

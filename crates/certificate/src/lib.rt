@@ -1,4 +1,6 @@
 // The certificate: seals of several boxes over one docket.
+#![tactic(auto)]
+
 ghost use Rattle.std.specs.Prelude.{◌≡◌, ◌+◌, ◌*◌, length, take, drop, IfOk, Ok};
 ghost use Rattle.refusals.specs.Reading.{judged};
 ghost use Rattle.certificate.specs.Faults.{certificate_reading};

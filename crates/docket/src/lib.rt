@@ -1,4 +1,6 @@
 // The docket: a numbered, sealed transaction of one account, and its 80 bytes.
+#![tactic(auto)]
+
 ghost use Rattle.std.specs.Prelude.{◌≡◌, ℕ, ◌+◌, ◌*◌, ◌<◌, ◌≤◌, ◌++◌, length, take, drop, IfOk, Ok, Decides, OnOk};
 ghost use Rattle.std.specs.List.{between};
 ghost use Rattle.refusals.specs.Reading.{judged};

@@ -7,6 +7,8 @@
 //   cut N         the seal's first N bytes, for the next check
 //   check         yes or no
 //   times N       how many of N checks say yes
+#![tactic(auto)]
+
 mod bytes;
 mod repeats;
 mod seals_check;

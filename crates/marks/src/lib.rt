@@ -1,4 +1,6 @@
 // Marks: votes that are written down before they are given out.
+#![tactic(auto)]
+
 ghost use Rattle.std.specs.Prelude.{◌≡◌, ℕ, true, List, IfSome, Option};
 ghost use Rattle.docket.specs.declared.Docket.{Docket};
 ghost use Rattle.marks.specs.Marks.{OwnMarks, ReadsBack, well_formed, read_answer, read_buffer, write_answer, mark_after, row_after};

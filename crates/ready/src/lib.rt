@@ -1,4 +1,6 @@
 // The ready box: a box with a store of marks beside it, that countersigns dockets.
+#![tactic(auto)]
+
 mod calls;
 mod countersign;
 mod join;

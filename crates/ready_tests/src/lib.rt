@@ -1,5 +1,7 @@
 // Runs of the ready box, and three uses of boxes that pass the check. Beside each of these, `.ci/must-not-compile`
 // keeps a patch that turns it into one that the check has to refuse.
+#![tactic(auto)]
+
 ghost use Rattle.std.specs.Prelude.{◌≡◌};
 ghost use Rattle.refusals.specs.Reading.{judged};
 ghost use Rattle.settlement.specs.Box.{box_of, take_answer};

@@ -1,4 +1,6 @@
 // What every refusal names: the layer that refuses, the refusal's number and a place in what was judged.
+#![tactic(auto)]
+
 ghost use Rattle.std.specs.Prelude.{◌≡◌};
 ghost use Rattle.refusals.specs.Reading.{Reading, outermost};
 

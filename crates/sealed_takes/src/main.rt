@@ -1,6 +1,8 @@
 // Box 0 of the bench's pool with LMS seals: reads the keys of all parties and a stream of certificates from standard
 // input, and prints what became of each certificate, with the place of a refusal. First it prints the refusal of keys
 // that are a byte short.
+#![tactic(auto)]
+
 use anyhow::anyhow;
 use book::{Book, PalletBook};
 use lms::Keys;

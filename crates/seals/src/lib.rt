@@ -1,4 +1,6 @@
 // Seals and who judges them.
+#![tactic(auto)]
+
 ghost use Rattle.std.specs.Prelude.{◌≡◌, ℕ, Bool, List};
 ghost use Rattle.seals.specs.Texts.{countersign_text};
 

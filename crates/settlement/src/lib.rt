@@ -1,4 +1,6 @@
 // The settlement box.
+#![tactic(auto)]
+
 mod accept;
 pub mod cold;
 mod examine;

@@ -1,4 +1,6 @@
 // A store of marks in host bytes, which outlive the box.
+#![tactic(auto)]
+
 ghost use Rattle.std.specs.Prelude.{◌≡◌, ℕ, ◌+◌, ◌-◌, ◌<◌, ◌≤◌, true, ◌&&◌, [], ◌∷◌, ◌++◌, length, take, drop, IfOk, Ok, ◌≢◌};
 ghost use Rattle.docket.specs.Layout.{blank, read_docket, encoded};
 ghost use Rattle.sheet.specs.Sheet.{count_of, end_of, fit, record_at, records, of_account, last_of, stays_by, keep_last, counted, contents, with_room, owner_on, mark_on, row_on, head_clear, all_read, rest_clear, well_laid, SameHead, Wrote, Lasts, lent, OpensSheet};

@@ -1,4 +1,6 @@
 // What programs over the box share: a stream of certificates, and the bench's pool.
+#![tactic(auto)]
+
 pub mod answer;
 pub mod bench;
 pub mod stream;
