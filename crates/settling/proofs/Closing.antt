@@ -1,10 +1,10 @@
 -- The loop that settles: each turn settles one docket of those that wait. Assumes nothing.
-use Rattle.std.proofs.Common.{◌≡◌, ℕ, zero, suc, ◌+◌, ◌*◌, ◌%◌, ◌<◌, ◌≤◌, Bool, true, false, cond, ◌&&◌, eqb, List, [], ◌∷◌, length, get_or, set, is_some, Some, None, Option, unwrap_or, sym, refl, ap, ◌∙◌, subst, arith}
+use Rattle.std.proofs.Common.{◌≡◌, ℕ, zero, suc, ◌+◌, ◌*◌, ◌%◌, ◌<◌, ◌≤◌, Bool, true, false, cond, eqb, List, [], ◌∷◌, length, get_or, set, is_some, Some, None, Option, unwrap_or, sym, refl, ap, ◌∙◌, subst, arith}
 use Rattle.std.specs.Option.{option_map}
 use Rattle.std.proofs.lemmas.Bool.{and_parts}
 use Rattle.docket.specs.declared.Docket.{Docket}
 use Rattle.settling.specs.declared.account.Account.{Account}
-use Rattle.settling.specs.Window.{fresh, cell, of_number, waiting, advanced, account_of, advanced_in, bounded_account, all_bounded, Bounded}
+use Rattle.settling.specs.Window.{cell, of_number, waiting, advanced, account_of, advanced_in, bounded_account, all_bounded, Bounded}
 use Rattle.settling.specs.Settle.{waiting_in, waiting_count, Ledger, covered_of, ready, or_else, with_index, lowest_ready, settle_one, settle_up_to, settle_all}
 use Rattle.settling.proofs.Bounds.{parts}
 

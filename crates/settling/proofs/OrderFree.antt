@@ -1,11 +1,10 @@
 -- Settling depends only on which dockets there are. Assumes nothing but the law.
-use Rattle.std.proofs.Common.{◌≡◌, ℕ, ◌≤◌, Bool, List, Some, sym, refl, ap, ◌∙◌, subst, ⊎_elim, arith}
+use Rattle.std.proofs.Common.{◌≡◌, ℕ, ◌≤◌, Bool, List, sym, refl, ap, ◌∙◌, subst, ⊎_elim, arith}
 use Rattle.std.proofs.lemmas.List.{same_lists}
 use Rattle.std.proofs.lemmas.Bool.{cases_lt}
 use Rattle.docket.specs.declared.Docket.{Docket}
 use Rattle.book.specs.Law.{WeaklyIndependent}
 use Rattle.settling.specs.Window.{account_of}
-use Rattle.settling.specs.Settle.{Ledger}
 use Rattle.settling.specs.Order.{In, Within, Progress, begun, settled, Settles, progress_of, is_settled, Outcomes, SameOutcome, MoreSettle, SettlingIsOrderFree}
 use Rattle.settling.proofs.Bounds.{account_read}
 use Rattle.settling.proofs.OrderRuns.{in_turn_lem, run_from}

@@ -118,11 +118,11 @@ impl Accounts {
 // Tries a docket's lines in the book, one after another. A covered docket's lines are made and kept; else the book
 // goes back to where it was.
 fn attempt<B: Book>(book: &mut B, docket: &Docket) -> bool
-    requires { kept book.old ≡ current book.old }
-    ensures answer { result ≡ is_some (covered valid next (current book.old) docket.now) }
-    ensures current { current book.new ≡ unwrap_or (covered valid next (current book.old) docket.now) (current book.old) }
-    ensures kept { kept book.new ≡ current book.new }
-    ensures opening { opening book.new ≡ opening book.old }
+    requires { B.kept book.old ≡ B.current book.old }
+    ensures answer { result ≡ is_some (covered B.valid B.next (B.current book.old) docket.now) }
+    ensures current { B.current book.new ≡ unwrap_or (covered B.valid B.next (B.current book.old) docket.now) (B.current book.old) }
+    ensures kept { B.kept book.new ≡ B.current book.new }
+    ensures opening { B.opening book.new ≡ B.opening book.old }
 {
     let lines = docket.used_lines();
     for line in lines {
@@ -137,11 +137,11 @@ fn attempt<B: Book>(book: &mut B, docket: &Docket) -> bool
 
 // Tries the docket that waits at an account's next number.
 fn attempt_due<B: Book>(book: &mut B, account: &Account) -> bool
-    requires { kept book.old ≡ current book.old }
-    ensures answer { result ≡ is_some (ready valid next (current book.old) account.now) }
-    ensures current { current book.new ≡ unwrap_or (ready valid next (current book.old) account.now) (current book.old) }
-    ensures kept { kept book.new ≡ current book.new }
-    ensures opening { opening book.new ≡ opening book.old }
+    requires { B.kept book.old ≡ B.current book.old }
+    ensures answer { result ≡ is_some (ready B.valid B.next (B.current book.old) account.now) }
+    ensures current { B.current book.new ≡ unwrap_or (ready B.valid B.next (B.current book.old) account.now) (B.current book.old) }
+    ensures kept { B.kept book.new ≡ B.current book.new }
+    ensures opening { B.opening book.new ≡ B.opening book.old }
 {
     match account.waiting(account.next) {
         Some(docket) => attempt(book, &docket),
@@ -151,11 +151,11 @@ fn attempt_due<B: Book>(book: &mut B, account: &Account) -> bool
 
 // Settles the docket at the next number of the lowest account where one waits and is covered, in the book alone.
 fn attempt_lowest<B: Book>(book: &mut B, rows: &[Account; 64]) -> Option<u8>
-    requires { kept book.old ≡ current book.old }
-    ensures answer { result ≡ option_map (λ x. x.0) (lowest_ready valid next 0 (current book.old) rows.now) }
-    ensures current { current book.new ≡ unwrap_or (option_map (λ x. x.1) (lowest_ready valid next 0 (current book.old) rows.now)) (current book.old) }
-    ensures kept { kept book.new ≡ current book.new }
-    ensures opening { opening book.new ≡ opening book.old }
+    requires { B.kept book.old ≡ B.current book.old }
+    ensures answer { result ≡ option_map (λ x. x.0) (lowest_ready B.valid B.next 0 (B.current book.old) rows.now) }
+    ensures current { B.current book.new ≡ unwrap_or (option_map (λ x. x.1) (lowest_ready B.valid B.next 0 (B.current book.old) rows.now)) (B.current book.old) }
+    ensures kept { B.kept book.new ≡ B.current book.new }
+    ensures opening { B.opening book.new ≡ B.opening book.old }
 {
     for (i, account) in rows.iter().enumerate() {
         if attempt_due(book, account) {
@@ -168,12 +168,12 @@ fn attempt_lowest<B: Book>(book: &mut B, rows: &[Account; 64]) -> Option<u8>
 // Settles what can settle: while some account's docket at its next number waits and is covered, that of the lowest
 // such account. The answer is how many did; none that waits can settle then.
 pub fn settle<B: Book>(book: &mut B, accounts: &mut Accounts) -> u32
-    ensures answer { result ≡ (settle_all valid next (record { state = current book.old; accounts = accounts.old.rows })).0 }
-    ensures current { current book.new ≡ (settle_all valid next (record { state = current book.old; accounts = accounts.old.rows })).1.state }
-    ensures accounts { accounts.new.rows ≡ (settle_all valid next (record { state = current book.old; accounts = accounts.old.rows })).1.accounts }
-    ensures kept { kept book.new ≡ current book.new }
-    ensures opening { opening book.new ≡ opening book.old }
-    ensures done { settle_one valid next (record { state = current book.new; accounts = accounts.new.rows }) ≡ None }
+    ensures answer { result ≡ (settle_all B.valid B.next (record { state = B.current book.old; accounts = accounts.old.rows })).0 }
+    ensures current { B.current book.new ≡ (settle_all B.valid B.next (record { state = B.current book.old; accounts = accounts.old.rows })).1.state }
+    ensures accounts { accounts.new.rows ≡ (settle_all B.valid B.next (record { state = B.current book.old; accounts = accounts.old.rows })).1.accounts }
+    ensures kept { B.kept book.new ≡ B.current book.new }
+    ensures opening { B.opening book.new ≡ B.opening book.old }
+    ensures done { settle_one B.valid B.next (record { state = B.current book.new; accounts = accounts.new.rows }) ≡ None }
 {
     book.keep();
     let mut count = 0;

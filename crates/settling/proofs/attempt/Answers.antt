@@ -6,7 +6,7 @@ pub returns-then-not-apply : goal.returns-then-not-apply
 returns-then-not-apply g c =
     let back = c.back.ensures.current ∙ (c.apply.ensures.kept ∙ (c.loop-line.invariant.1 ∙ c.requires)) in
     let t = tried_stop g.B.Book.valid g.B.Book.next c.args.docket.now (g.B.Book.current c.args.book.now) (g.B.Book.current c.loop-line.book) (g.B.Book.current c.back.new.self)
-    c.used-lines-lines.result.now c.loop-line.line-index c.used-lines-lines.ensures c.loop-line-test.true c.loop-line.invariant.0 c.if-not-apply.ensures.answer back in
+    c.used_lines-lines.result.now c.loop-line.line-index c.used_lines-lines.ensures c.loop-line-test.true c.loop-line.invariant.0 c.if-not-apply.ensures.answer back in
     record {
       answer = t.answered;
       current = t.left;
@@ -17,7 +17,7 @@ returns-then-not-apply g c =
 pub loop-line-preserved : goal.loop-line-preserved
 loop-line-preserved g c = (
   lines_more g.B.Book.valid g.B.Book.next c.args.docket.now.account (g.B.Book.current c.loop-line.book) (g.B.Book.current c.apply.new.self)
-      c.used-lines-lines.result.now c.loop-line.line-index _ c.loop-line-test.true c.loop-line.invariant.0 c.if-not-apply.ensures.answer c.apply.ensures.current,
+      c.used_lines-lines.result.now c.loop-line.line-index _ c.loop-line-test.true c.loop-line.invariant.0 c.if-not-apply.ensures.answer c.apply.ensures.current,
   c.apply.ensures.kept ∙ c.loop-line.invariant.1,
   c.apply.ensures.opening ∙ c.loop-line.invariant.2,
 )
@@ -25,7 +25,7 @@ loop-line-preserved g c = (
 pub returns : goal.returns
 returns g c =
     let t = tried_all g.B.Book.valid g.B.Book.next c.args.docket.now (g.B.Book.current c.args.book.now) (g.B.Book.current c.loop-line.book) (g.B.Book.current c.keep.new.self)
-    c.used-lines-lines.result.now c.loop-line.line-index c.used-lines-lines.ensures c.loop-line-test.false c.loop-line.invariant.0 c.keep.ensures.current in
+    c.used_lines-lines.result.now c.loop-line.line-index c.used_lines-lines.ensures c.loop-line-test.false c.loop-line.invariant.0 c.keep.ensures.current in
     record {
       answer = t.answered;
       current = t.left;

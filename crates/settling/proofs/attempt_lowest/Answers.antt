@@ -2,22 +2,22 @@ use Rattle.std.proofs.Common.{◌∙◌, arith}
 use Rattle.settling.proofs.Trying.{low_more, low_stop, low_all}
 use Rattle.settling.proofs.attempt_lowest.Goals as goal
 
-pub returns-then-attempt-due : goal.returns-then-attempt-due
-returns-then-attempt-due g c =
-    let l = low_stop g.B.Book.valid g.B.Book.next (g.B.Book.current c.args.book.now) (g.B.Book.current c.loop-i.book) (g.B.Book.current c.attempt-due.new.book)
-    c.args.rows.now c.loop-i.i _ _ c.loop-i.invariant.1 (omega arith) c.loop-i.invariant.0 c.if-attempt-due.ensures.answer c.attempt-due.ensures.current in
+pub returns-then-attempt_due : goal.returns-then-attempt_due
+returns-then-attempt_due g c =
+    let l = low_stop g.B.Book.valid g.B.Book.next (g.B.Book.current c.args.book.now) (g.B.Book.current c.loop-i.book) (g.B.Book.current c.attempt_due.new.book)
+    c.args.rows.now c.loop-i.i _ _ c.loop-i.invariant.1 (omega arith) c.loop-i.invariant.0 c.if-attempt_due.ensures.answer c.attempt_due.ensures.current in
     record {
       answer = l.index;
       current = l.left;
-      kept = c.attempt-due.ensures.kept;
-      opening = c.attempt-due.ensures.opening ∙ c.loop-i.invariant.3;
+      kept = c.attempt_due.ensures.kept;
+      opening = c.attempt_due.ensures.opening ∙ c.loop-i.invariant.3;
     }
 
 pub loop-i-preserved : goal.loop-i-preserved
 loop-i-preserved g c =
-    let m = low_more g.B.Book.valid g.B.Book.next (g.B.Book.current c.args.book.now) (g.B.Book.current c.loop-i.book) (g.B.Book.current c.attempt-due.new.book)
-    c.args.rows.now c.loop-i.i _ _ c.loop-i.invariant.1 (omega arith) c.loop-i.invariant.0 c.if-attempt-due.ensures.answer c.attempt-due.ensures.current in
-    (m.0, m.1, c.attempt-due.ensures.kept, c.attempt-due.ensures.opening ∙ c.loop-i.invariant.3)
+    let m = low_more g.B.Book.valid g.B.Book.next (g.B.Book.current c.args.book.now) (g.B.Book.current c.loop-i.book) (g.B.Book.current c.attempt_due.new.book)
+    c.args.rows.now c.loop-i.i _ _ c.loop-i.invariant.1 (omega arith) c.loop-i.invariant.0 c.if-attempt_due.ensures.answer c.attempt_due.ensures.current in
+    (m.0, m.1, c.attempt_due.ensures.kept, c.attempt_due.ensures.opening ∙ c.loop-i.invariant.3)
 
 pub returns : goal.returns
 returns g c =

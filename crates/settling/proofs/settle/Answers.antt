@@ -1,7 +1,6 @@
-use Rattle.std.proofs.Common.{◌≡◌, ◌≤◌, Some, None, sym, refl, ap, ◌∙◌, arith, rules}
-use Rattle.settling.specs.Settle.{Ledger, lowest_ready}
+use Rattle.std.proofs.Common.{sym, refl, ap, ◌∙◌, arith, rules}
+use Rattle.settling.specs.Settle.{Ledger}
 use Rattle.settling.proofs.Closing.{along_none, along_next, along_end, settles, turn_less, turn_count, lowest_some, lowest_none}
-use Rattle.settling.proofs.settle.Given as given
 use Rattle.settling.proofs.settle.Goals as goal
 
 pub settling-init : goal.settling-init
@@ -14,8 +13,8 @@ advance-requires g c =
     let z = settles g.B.Book.valid g.B.Book.next _ c.settling.accounts.rows c.in-Some.account _ e in
     record { within = omega (arith, z.within, c.settling.accounts.small.0); due = z.due }
 
-pub overflow-add-count : goal.overflow-add-count
-overflow-add-count g c =
+pub overflow_add-count : goal.overflow_add-count
+overflow_add-count g c =
     let h = turn_count g.B.Book.valid g.B.Book.next _ _ c.settling.count c.args.accounts.now.small c.settling.invariant.0 in
     search rules
 
@@ -28,19 +27,19 @@ pub settling-preserved : goal.settling-preserved
 settling-preserved g c =
     let e = lowest_some g.B.Book.valid g.B.Book.next _ _ c.in-Some.account _ c.in-Some.ensures.answer c.in-Some.ensures.current in (
       along_next g.B.Book.valid g.B.Book.next _ _ _ c.settling.accounts.rows c.advance.new.self.rows c.settling.count c.in-Some.account c.settling.invariant.0 e c.advance.ensures,
-      c.attempt-lowest.ensures.kept,
-      c.attempt-lowest.ensures.opening ∙ c.settling.invariant.2,
+      c.attempt_lowest.ensures.kept,
+      c.attempt_lowest.ensures.opening ∙ c.settling.invariant.2,
     )
 
 pub returns : goal.returns
 returns g c =
-    let e = lowest_none g.B.Book.valid g.B.Book.next _ _ _ c.in-default.ensures.answer c.in-default.ensures.current in
+    let e = lowest_none g.B.Book.valid g.B.Book.next _ _ _ c.in_default.ensures.answer c.in_default.ensures.current in
     let d = along_end g.B.Book.valid g.B.Book.next _ _ _ _ _ c.settling.accounts.rows c.settling.count c.keep.ensures.current c.settling.invariant.0 e.0 e.1 in
     record {
       answer = d.counted;
       current = ap (λ (l : Ledger g.B.Book.State). l.state) d.ends;
       accounts = ap (λ (l : Ledger g.B.Book.State). l.accounts) d.ends;
-      kept = c.attempt-lowest.ensures.kept;
-      opening = c.attempt-lowest.ensures.opening ∙ (c.settling.invariant.2 ∙ c.keep.ensures.opening);
+      kept = c.attempt_lowest.ensures.kept;
+      opening = c.attempt_lowest.ensures.opening ∙ (c.settling.invariant.2 ∙ c.keep.ensures.opening);
       done = d.settled;
     }

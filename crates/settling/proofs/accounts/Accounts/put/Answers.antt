@@ -4,12 +4,12 @@ use Rattle.settling.proofs.Bounds.{store_keeps, stored_in, stored_out}
 use Rattle.settling.proofs.accounts.Accounts.put.Goals as goal
 use Rattle.settling.specs.Window.{placed}
 
-pub invariant-of-self : goal.invariant-of-self
-invariant-of-self c = (
-  store_keeps c.args.self.now.rows c.args.docket c.with-account.result c.args.self.now.small c.if-docket.false
-      (c.with-account.ensures ∙ ap (λ a. placed a c.args.docket) c.get.ensures),
-  tt,
-)
+pub invariant_of-self : goal.invariant_of-self
+invariant_of-self c =
+    record {
+      small = store_keeps c.args.self.now.rows c.args.docket c.with-account.result c.args.self.now.small c.if-docket.false
+          (c.with-account.ensures ∙ ap (λ a. placed a c.args.docket) c.get.ensures);
+    }
 
 pub returns-then-at-lt64 : goal.returns-then-at-lt64
 returns-then-at-lt64 c =
