@@ -1,5 +1,5 @@
 -- Moves, and then more moves.
-use Rattle.std.proofs.Common.{◌≡◌, ℕ, Bool, true, false, ◌&&◌, List, [], ◌∷◌, ◌++◌, sym, refl, ap, ◌∙◌}
+use Rattle.std.proofs.Common.{◌≡◌, ℕ, Bool, true, false, ◌&&◌, List, [], ◌∷◌, ◌++◌, refl, ap, ◌∙◌}
 use Rattle.book.specs.Law.{Move, valid_move, next_move, after, all_valid}
 
 pub after_append : {State : Type 0} (next : State → ℕ → List ℕ → State) (s : State) (ms ns : List Move) → after next s (ms ++ ns) ≡ after next (after next s ms) ns

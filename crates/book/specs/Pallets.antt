@@ -1,5 +1,5 @@
 -- The pallet book: 64 balances, and lines that move pallets from one account to another.
-use Rattle.std.specs.Prelude.{ℕ, ◌+◌, ◌-◌, ◌^◌, Bool, false, cond, not, ◌&&◌, List, set, Some, None, Ok, Err, sum, Option, Result, ◌==◌, nat_le, slice_index, slice_set}
+use Rattle.std.specs.Prelude.{ℕ, ◌+◌, ◌-◌, ◌^◌, Bool, false, cond, not, ◌&&◌, List, Some, None, Ok, Err, sum, Option, Result, ◌==◌, nat_le, slice_index, slice_set}
 use Rattle.book.specs.Line.{kind, zeros, last_number}
 use Rattle.book.specs.declared.pallets.Transfer.{Transfer}
 use Rattle.refusals.specs.Reading.{Reading, found}

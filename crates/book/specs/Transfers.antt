@@ -1,16 +1,14 @@
--- Transfers keep the sum of the balances, and transfers of two issuers can be made in either order.
-use Rattle.std.specs.Prelude.{◌≡◌, ℕ, zero, suc, ◌+◌, ◌-◌, ◌<◌, ◌≤◌, true, ◌≢◌, List, [], ◌∷◌, length, Some, None, sum, Option, slice_index, slice_set, refl}
-use Rattle.std.proofs.Common.{ap, sym, ◌∙◌, ⊎_elim, arith}
+-- Transfers of two issuers can be made in either order, as the pallet book's law says: a law cites nothing of proofs/.
+use Rattle.std.specs.Prelude.{◌≡◌, ℕ, zero, suc, ◌+◌, ◌-◌, ◌≤◌, true, ◌≢◌, List, [], ◌∷◌, Some, None, Option, slice_index, slice_set, refl}
+use Rattle.std.proofs.Common.{ap, sym, ◌∙◌, arith}
 use Rattle.book.specs.Law.{Move, EitherOrder}
-use Rattle.book.specs.Pallets.{balance, credit, debit, transfer, transfer_in, covered, moved, pallet_valid, pallet_next}
+use Rattle.book.specs.Pallets.{balance, credit, debit, transfer_in, covered, moved, pallet_valid, pallet_next}
 use Rattle.book.specs.declared.pallets.Transfer.{Transfer}
-use Rattle.std.proofs.lemmas.List.{get_or_past, get_or-set_other, length-set, set_past}
-use Rattle.std.proofs.lemmas.List.Sums.{sum_by-set, get_or-le-sum_by}
-use Rattle.std.proofs.lemmas.Bool.{cases_lt}
+use Rattle.std.proofs.lemmas.List.{get_or-set_other}
 use Rattle.std.proofs.lemmas.Bool.Decides.{nat_tests}
 
 -- a change of one balance by f
-abbrev change : (ℕ → ℕ) → ℕ → List ℕ → List ℕ
+abbrev pub change : (ℕ → ℕ) → ℕ → List ℕ → List ℕ
 change f i xs = slice_set xs i (f (slice_index xs i))
 
 -- two changes commute, if they do so at a balance that both change
@@ -22,7 +20,7 @@ change_change f g (suc i) zero (x ∷ xs) h = refl
 change_change f g (suc i) (suc j) (x ∷ xs) h = ap (λ ys. x ∷ ys) (change_change f g i j xs (λ e. h (ap suc e)))
 
 -- what holds of any balance and itself, and of one and what f makes of it, holds at each account
-change_at : (R : ℕ → ℕ → Type 0) (f : ℕ → ℕ) → ((n : ℕ) → R n n) → ((n : ℕ) → R n (f n)) → (xs : List ℕ) (i k : ℕ) → R (slice_index xs k) (slice_index (change f i xs) k)
+pub change_at : (R : ℕ → ℕ → Type 0) (f : ℕ → ℕ) → ((n : ℕ) → R n n) → ((n : ℕ) → R n (f n)) → (xs : List ℕ) (i k : ℕ) → R (slice_index xs k) (slice_index (change f i xs) k)
 change_at R f same changed [] i k = same 0
 change_at R f same changed (x ∷ xs) zero zero = changed x
 change_at R f same changed (x ∷ xs) zero (suc k) = same (slice_index xs k)
@@ -38,28 +36,6 @@ credit_credit xs i j x y = change_change (λ n. n + x) (λ n. n + y) i j xs (λ 
 -- a debit that the balance covers can come before a credit or after it
 pub debit_credit : (xs : List ℕ) (i j x y : ℕ) → x ≤ balance xs i → debit (credit xs j y) i x ≡ credit (debit xs i x) j y
 debit_credit xs i j x y covers = change_change (λ n. n - x) (λ n. n + y) i j xs (λ e. omega arith)
-
--- the sum: a debit takes from it what a credit gives
-
-debit_sum : (xs : List ℕ) (i x : ℕ) → x ≤ balance xs i → sum (debit xs i x) + x ≡ sum xs
-debit_sum xs i x covers =
-    ⊎_elim
-    (λ known. omega (arith, sum_by-set (λ (n : ℕ). n) xs i (balance xs i - x) 0 known))
-    (λ past. omega (arith, get_or_past xs i 0 past, ap sum (set_past xs i (balance xs i - x) past)))
-    (cases_lt i (length xs))
-
-pub transfer_sum : (xs : List ℕ) (i r x : ℕ) → r < length xs → x ≤ balance xs i → sum (transfer xs i r x) ≡ sum xs
-transfer_sum xs i r x known covers =
-    let e = debit_sum xs i x covers in
-    let d = sum_by-set (λ (n : ℕ). n) (debit xs i x) r (balance (debit xs i x) r + x) 0 (simp length-set known) in
-    omega arith
-
-pub balance_sum : (xs : List ℕ) (i : ℕ) → balance xs i ≤ sum xs
-balance_sum xs i =
-    ⊎_elim (λ known. get_or-le-sum_by (λ (n : ℕ). n) xs i 0 known) (λ past. omega (arith, get_or_past xs i 0 past)) (cases_lt i (length xs))
-
-pub debit_shrinks : (xs : List ℕ) (i x k : ℕ) → balance (debit xs i x) k ≤ balance xs k
-debit_shrinks xs i x k = change_at (λ m n. n ≤ m) (λ n. n - x) (λ n. omega arith) (λ n. omega arith) xs i k
 
 -- a transfer takes from no account but its issuer's
 

@@ -122,7 +122,7 @@ impl Book for PalletBook {
 
     ghost answer = { pallet_answer };
 
-    ghost kinds = { first_of (Prim.search rules, Prim.grind (arith, Self.row.coded.inj)) };
+    ghost kinds = { Prim.search rules };
 
     // transfers of two issuers commute in any state, reached or not
     ghost independence = { λ b before m n reached apart. either_order (after pallet_next b.opening before) m n apart };
