@@ -1,5 +1,5 @@
 -- The answers of a check.
-use Rattle.std.proofs.Common.{◌≡◌, ℕ, ◌+◌, ◌-◌, ◌*◌, ◌/◌, ◌<◌, ◌≤◌, Bool, true, false, ◌&&◌, eqb, ltb, List, length, take, drop, sym, refl, ap, ◌∙◌, arith}
+use Rattle.std.proofs.Common.{◌≡◌, ℕ, ◌+◌, ◌*◌, ◌/◌, ◌<◌, Bool, true, false, eqb, ltb, List, length, sym, refl, ◌∙◌, arith}
 use Rattle.lms.specs.Hashes.{leaf}
 use Rattle.lms.specs.Keys.{key_of, good_under}
 use Rattle.lms.specs.Tree.{climbed}

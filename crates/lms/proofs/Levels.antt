@@ -1,5 +1,5 @@
 -- Levels of a path.
-use Rattle.std.proofs.Common.{◌≡◌, ℕ, zero, suc, ◌/◌, List, ◌++◌, length, take, drop, sym, refl, ap, ◌∙◌, arith, length-append}
+use Rattle.std.proofs.Common.{◌≡◌, ℕ, suc, ◌/◌, List, ◌++◌, length, take, drop, refl, arith, length-append}
 use Rattle.lms.specs.Tree.{parent, climbed}
 use Rattle.std.proofs.lemmas.List.{take_at, drop_at}
 

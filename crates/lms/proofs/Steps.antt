@@ -1,5 +1,5 @@
 -- Steps of a chain, sums of a checksum, ends of chains.
-use Rattle.std.proofs.Common.{◌≡◌, ℕ, zero, suc, ◌+◌, ◌-◌, ◌*◌, ◌<◌, ◌≤◌, List, [], ◌∷◌, ◌++◌, length, get_or, take, drop, sym, refl, ap, ◌∙◌, add-one, arith}
+use Rattle.std.proofs.Common.{◌≡◌, ℕ, suc, ◌+◌, ◌-◌, ◌<◌, ◌≤◌, List, [], ◌++◌, length, get_or, drop, sym, refl, ap, ◌∙◌, add-one, arith}
 use Rattle.lms.specs.Chains.{step, steps, chained, checksum, value_at, chain_ends}
 use Rattle.lms.specs.Hashes.{head}
 use Rattle.std.proofs.lemmas.List.{append_assoc, at_drop_more, at_drop_all}

@@ -1,7 +1,7 @@
 -- Blocks off the front of a text, and words as bytes.
-use Rattle.std.proofs.Common.{◌≡◌, ℕ, zero, suc, ◌+◌, ◌*◌, ◌/◌, ◌%◌, ◌<◌, ◌≤◌, List, [], ◌∷◌, ◌++◌, length, get_or, take, drop, sym, refl, ap, ◌∙◌, arith, length-append}
+use Rattle.std.proofs.Common.{◌≡◌, ℕ, suc, ◌+◌, ◌*◌, ◌/◌, ◌<◌, List, [], ◌∷◌, ◌++◌, length, get_or, take, drop, sym, refl, ap, ◌∙◌, arith, length-append}
 use Rattle.sha256.specs.Compression.{compressed}
-use Rattle.sha256.specs.Digest.{u32, padding, folded, bytes_of, finished}
+use Rattle.sha256.specs.Digest.{u32, folded, bytes_of}
 use Rattle.std.proofs.lemmas.List.{take_at, drop_at, append_assoc, take_more}
 use Rattle.std.proofs.lemmas.Slice.{take-put_mid}
 use borrow.Rule.Slice.PartMut.{put_mid}

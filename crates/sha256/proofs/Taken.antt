@@ -2,7 +2,7 @@
 use Rattle.std.proofs.Common.{◌≡◌, ℕ, zero, suc, ◌+◌, ◌-◌, ◌*◌, ◌/◌, ◌%◌, ◌^◌, ◌<◌, ◌≤◌, List, [], ◌∷◌, ◌++◌, length, take, drop, replicate, sym, refl, ap, ◌∙◌, arith, length-append}
 use Rattle.sha256.specs.Compression.{compressed}
 use Rattle.sha256.specs.Digest.{u64, padding, folded, bytes_of, finished}
-use Rattle.sha256.proofs.Blocks.{folded_more, folded_none, folded_suc}
+use Rattle.sha256.proofs.Blocks.{folded_more, folded_none}
 use Rattle.std.proofs.lemmas.List.{append_assoc, append-nil, drop-drop, length-drop, length-take-le, take-append-drop, take_at, replicate-append-replicate, length-replicate}
 
 -- only the count modulo 2^64 matters

@@ -1,5 +1,5 @@
 -- One more turn, one more word.
-use Rattle.std.proofs.Common.{◌≡◌, ℕ, suc, ◌+◌, ◌-◌, ◌*◌, ◌<◌, ◌≤◌, List, [], ◌∷◌, ◌++◌, length, get_or, take, set, sym, refl, ◌∙◌, add-one, arith}
+use Rattle.std.proofs.Common.{◌≡◌, ℕ, suc, ◌+◌, ◌-◌, ◌*◌, ◌<◌, ◌≤◌, List, [], ◌∷◌, ◌++◌, length, get_or, take, set, refl, ◌∙◌, add-one, arith}
 use Rattle.sha256.specs.Compression.{constants, word_at, words_of, next_word, extended, turn, turns}
 use Rattle.sha256.specs.Words.{add, σ₀, σ₁}
 use Rattle.std.proofs.lemmas.List.{get_or-take, length-take-le, take_more_set}

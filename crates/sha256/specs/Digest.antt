@@ -1,5 +1,5 @@
 -- SHA-256 of a text of bytes: FIPS 180-4, sections 5.1.1 and 6.2.
-use Rattle.std.specs.Prelude.{ℕ, zero, suc, ◌+◌, ◌-◌, ◌*◌, ◌/◌, ◌%◌, ◌^◌, List, [], ◌∷◌, ◌++◌, length, take, drop, replicate}
+use Rattle.std.specs.Prelude.{ℕ, zero, suc, ◌-◌, ◌*◌, ◌/◌, ◌%◌, ◌^◌, List, [], ◌∷◌, ◌++◌, length, take, drop, replicate}
 use Rattle.sha256.specs.Compression.{compressed, initial}
 
 -- numbers as eight and four bytes, the highest one first

@@ -1,5 +1,5 @@
 -- An example of FIPS 180-4 as a statement about the definition.
-use Rattle.std.specs.Prelude.{◌≡◌, List, [], ◌∷◌}
+use Rattle.std.specs.Prelude.{◌≡◌, [], ◌∷◌}
 use Rattle.sha256.specs.Digest.{sha256}
 
 -- "abc"

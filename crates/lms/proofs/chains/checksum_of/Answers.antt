@@ -1,4 +1,4 @@
-use Rattle.std.proofs.Common.{length, arith}
+use Rattle.std.proofs.Common.{arith}
 use Rattle.lms.proofs.Steps.{checksum_more, checksum_none}
 use Rattle.lms.proofs.chains.checksum_of.Goals as goal
 

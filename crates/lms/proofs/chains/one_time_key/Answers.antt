@@ -1,4 +1,4 @@
-use Rattle.std.proofs.Common.{◌++◌, ◌∙◌}
+use Rattle.std.proofs.Common.{◌∙◌}
 use Rattle.lms.proofs.Steps.{whole_chain, fed, fed_more}
 use Rattle.lms.proofs.chains.one_time_key.Goals as goal
 
@@ -8,4 +8,4 @@ loop-i-init c rest = c.update.ensures rest ∙ c.new-hasher.ensures _ ∙ fed _ 
 pub loop-i-preserved : goal.loop-i-preserved
 loop-i-preserved c rest =
     c.update-in-loop-i.ensures rest ∙ c.loop-i.invariant _ ∙ fed_more _ _ _ _ _ _ rest
-    (whole_chain _ _ _ _ _ _ c.front-in-loop-i.ensures c.value-at-start.ensures c.chain-end-end.ensures)
+    (whole_chain _ _ _ _ _ _ c.front-in-loop-i.ensures c.value_at-start.ensures c.chain_end-end.ensures)

@@ -1,4 +1,4 @@
-use Rattle.std.proofs.Common.{◌≡◌, ◌/◌, List, [], ◌++◌, sym, refl, ap, ◌∙◌, arith}
+use Rattle.std.proofs.Common.{◌≡◌, ◌/◌, [], ap, ◌∙◌, arith}
 use native.Mathlib.Nat.{sub-zero}
 use Rattle.lms_vectors.proofs.Steps.{copies_none, copies_more}
 use Rattle.lms_vectors.proofs.repeats.repeated_digest.Goals as goal
@@ -13,5 +13,5 @@ loop-i-preserved c rest = c.update.ensures rest ∙ c.loop-i.invariant _ ∙ ap 
 
 pub returns : goal.returns
 returns c =
-    let end : c.loop-i.-i ≡ c.args.n / 256 = omega arith in
+    let end : c.loop-i._i ≡ c.args.n / 256 = omega arith in
     c.finish.ensures ∙ (rw append-nil at (c.update-2.ensures [])) ∙ c.loop-i.invariant _ ∙ rw (end, sub-zero)

@@ -9,4 +9,4 @@ loop-i-init c = refl
 pub loop-i-preserved : goal.loop-i-preserved
 loop-i-preserved c =
     let n : 8 * (c.loop-i.i + 1) ≡ 8 * c.loop-i.i + 8 = omega arith in
-    rw n (c.eight-turns-next.ensures _ c.loop-i.invariant)
+    rw n (c.eight_turns-next.ensures _ c.loop-i.invariant)

@@ -6,4 +6,4 @@ pub loop-i-init : goal.loop-i-init
 loop-i-init c = words_none _
 
 pub loop-i-preserved : goal.loop-i-preserved
-loop-i-preserved c = words_more _ _ _ _ (omega arith) c.loop-i.invariant c.word-at.ensures
+loop-i-preserved c = words_more _ _ _ _ (omega arith) c.loop-i.invariant c.word_at.ensures

@@ -9,7 +9,7 @@ loop-i-init c = (refl, bytes_none)
 
 pub loop-i-preserved : goal.loop-i-preserved
 loop-i-preserved c =
-    let f = c.copy-from-slice.ensures.after ∙ c.to-be-bytes.ensures in
+    let f = c.copy_from_slice.ensures.after ∙ c.to_be_bytes.ensures in
     (search (rules, places), bytes_more _ _ _ _ _ c.loop-i.invariant.0 (omega arith) (omega arith) c.loop-i.invariant.1 f)
 
 pub returns : goal.returns

@@ -1,4 +1,4 @@
-use Rattle.std.proofs.Common.{◌≡◌, ◌%◌, length, take, sym, refl, ◌∙◌, add-zero, arith}
+use Rattle.std.proofs.Common.{◌%◌, take, sym, refl, ◌∙◌, add-zero, arith}
 use Rattle.sha256.specs.Hasher.{after}
 use Rattle.sha256.proofs.Taken.{ends_here, ends_next}
 use Rattle.std.proofs.lemmas.List.{append-nil, length-take-le}

@@ -1,4 +1,4 @@
-use Rattle.std.proofs.Common.{refl, zero-add}
+use Rattle.std.proofs.Common.{zero-add}
 use Rattle.sha256.specs.Compression.{initial}
 use Rattle.sha256.specs.Digest.{sha256}
 use Rattle.sha256.specs.Hasher.{after}
