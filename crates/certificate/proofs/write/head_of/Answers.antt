@@ -4,9 +4,9 @@ use Rattle.certificate.proofs.write.head_of.Goals as goal
 
 pub returns : goal.returns
 returns c =
-    let l : length c.to-bytes.result ≡ 80 = search rules in
+    let l : length c.to_bytes.result ≡ 80 = search rules in
     record {
-      front = head_made c.args.docket.now c.args.signers.now c.put.new.out c.put-rows.new.head c.put-2.new.out _
-          c.put.ensures.front c.put-rows.ensures c.put-2.ensures.front c.to-bytes.ensures.value l;
-      sized = c.to-bytes.ensures.sized;
+      front = head_made c.args.docket.now c.args.signers.now c.put.new.out c.put_rows.new.head c.put-2.new.out _
+          c.put.ensures.front c.put_rows.ensures c.put-2.ensures.front c.to_bytes.ensures.value l;
+      sized = c.to_bytes.ensures.sized;
     }

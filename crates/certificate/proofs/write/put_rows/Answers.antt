@@ -4,9 +4,9 @@ use Rattle.certificate.proofs.write.put_rows.Goals as goal
 
 pub loop-i-preserved : goal.loop-i-preserved
 loop-i-preserved c =
-    let p = c.next-place-place.ensures in (
+    let p = c.next_place-place.ensures in (
       omega (arith, p.bound),
-      rows_put c.loop-i.i c.loop-i.place _ c.loop-i.head c.put.new.out _ _ c.args.signers.now _ (omega arith) p.value c.loop-i.invariant.1 c.row-of.ensures c.put.ensures.front,
+      rows_put c.loop-i.i c.loop-i.place _ c.loop-i.head c.put.new.out _ _ c.args.signers.now _ (omega arith) p.value c.loop-i.invariant.1 c.row_of.ensures c.put.ensures.front,
     )
 
 pub returns : goal.returns

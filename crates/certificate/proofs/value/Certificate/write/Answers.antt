@@ -8,34 +8,34 @@ returns-then-count-eq0 c =
     let a = write_count c.args.boxes c.args.docket.now c.args.signers.now c.args.seals.now c.args.out.now c.then-count-eq0.either in
     record { answer = a; buffer = buffer_same _ _ _ _ _ _ a; back = tt }
 
-pub read-head-requires : goal.read-head-requires
-read-head-requires c =
-    head_long _ c.args.docket.now c.args.signers.now _ c.head-of-head.ensures.sized (is_head c.args.docket.now c.args.signers.now c.head-of-head.result c.head-of-head.ensures.front)
+pub read_head-requires : goal.read_head-requires
+read_head-requires c =
+    head_long _ c.args.docket.now c.args.signers.now _ c.head_of-head.ensures.sized (is_head c.args.docket.now c.args.signers.now c.head_of-head.result c.head_of-head.ensures.front)
 
-pub returns-in-err-read-head : goal.returns-in-err-read-head
-returns-in-err-read-head c =
-    let p = err_from_is_err_and c.from-residual.result c.from-residual.ensures.1 in
+pub returns-in_err-read_head : goal.returns-in_err-read_head
+returns-in_err-read_head c =
+    let p = err_from_is_err_and c.from_residual.result c.from_residual.ensures.1 in
     let a = write_by c.args.boxes c.args.docket.now c.args.signers.now c.args.seals.now c.args.out.now _ _ _
-    (is_head c.args.docket.now c.args.signers.now c.head-of-head.result c.head-of-head.ensures.front) c.in-err-read-head.ensures refl in
+    (is_head c.args.docket.now c.args.signers.now c.head_of-head.result c.head_of-head.ensures.front) c.in_err-read_head.ensures refl in
     rw (p.1, p.2) (record { answer = a; buffer = buffer_same _ _ _ _ _ _ a; back = tt })
 
-pub returns-in-err-written : goal.returns-in-err-written
-returns-in-err-written c =
-    let p = err_from_is_err_and c.from-residual-in-err-written.result c.from-residual-in-err-written.ensures.1 in
+pub returns-in_err-written : goal.returns-in_err-written
+returns-in_err-written c =
+    let p = err_from_is_err_and c.from_residual-in_err-written.result c.from_residual-in_err-written.ensures.1 in
     let a = write_by c.args.boxes c.args.docket.now c.args.signers.now c.args.seals.now c.args.out.now _ _ _
-    (is_head c.args.docket.now c.args.signers.now c.head-of-head.result c.head-of-head.ensures.front) c.in-ok-read-head.ensures c.in-err-written.ensures.answer in
+    (is_head c.args.docket.now c.args.signers.now c.head_of-head.result c.head_of-head.ensures.front) c.in_ok-read_head.ensures c.in_err-written.ensures.answer in
     rw (p.1, p.2) (record { answer = a; buffer = buffer_same _ _ _ _ _ _ a; back = tt })
 
 pub returns : goal.returns
 returns c =
-    let e = is_head c.args.docket.now c.args.signers.now c.head-of-head.result c.head-of-head.ensures.front in
-    let z = c.head-of-head.ensures.sized in
-    let w = c.in-ok-written.ensures in
-    let o = c.put-all.ensures in
+    let e = is_head c.args.docket.now c.args.signers.now c.head_of-head.result c.head_of-head.ensures.front in
+    let z = c.head_of-head.ensures.sized in
+    let w = c.in_ok-written.ensures in
+    let o = c.put_all.ensures in
     let a = write_by c.args.boxes c.args.docket.now c.args.signers.now c.args.seals.now c.args.out.now _ _ _
-    e c.in-ok-read-head.ensures w.answer in
+    e c.in_ok-read_head.ensures w.answer in
     record {
       answer = a;
-      buffer = buffer_written _ _ _ _ _ c.args.out.now c.put-all.new.out _ z e w.bounds.0 a o.front o.rest;
-      back = written_back _ _ _ _ c.args.seals.now c.put-all.new.out _ _ z e w.bounds.0 c.in-ok-read-head.ensures o.front;
+      buffer = buffer_written _ _ _ _ _ c.args.out.now c.put_all.new.out _ z e w.bounds.0 a o.front o.rest;
+      back = written_back _ _ _ _ c.args.seals.now c.put_all.new.out _ _ z e w.bounds.0 c.in_ok-read_head.ensures o.front;
     }
