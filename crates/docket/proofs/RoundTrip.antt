@@ -1,15 +1,17 @@
 -- What is written reads back equal, and what is read is written as the same bytes. Assumes nothing.
-use Rattle.std.proofs.Common.{◌≡◌, ℕ, ◌+◌, ◌-◌, ◌*◌, ◌/◌, ◌%◌, ◌<◌, ◌≤◌, Bool, true, false, ◌&&◌, eqb, List, [], ◌∷◌, ◌++◌, length, get_or, take, drop, Some, None, Ok, Decides, Option, sym, refl, ap, ◌∙◌, arith, lit<, lit≤}
+use Rattle.std.proofs.Common.{◌≡◌, ℕ, ◌+◌, ◌-◌, ◌*◌, ◌/◌, ◌%◌, ◌<◌, ◌≤◌, Bool, true, false, ◌&&◌, eqb, List, [], ◌∷◌, ◌++◌, length, get_or, take, drop, Some, None, Ok, Decides, Option, sym, refl, ap, subst, nat_eq, ◌∙◌, arith, lit<, lit≤}
 use native.Mathlib.Nat.{div-div-eq-div-mul, div-eq_of_lt}
 use Rattle.std.proofs.lemmas.List.{drop_more, drop-drop, drop_all, take-append-drop, append-nil, append_assoc, take_at, drop_at, take_all, length-append}
 use Rattle.std.specs.List.{between}
 use Rattle.std.proofs.lemmas.List.Edits.{get_or-between}
-use Rattle.std.proofs.lemmas.Bool.{and_parts, eqb-true}
-use Rattle.std.proofs.lemmas.Bool.Decides.{nat_tests}
+use Rattle.std.proofs.lemmas.Bool.{and_parts, eqb-true, eq-eqb}
+use Rattle.std.proofs.lemmas.Bool.Decides.{nat_tests, Decides-eqb}
+use Rattle.std.specs.Cmp.Derive.{both_true}
+use Rattle.std.specs.Cmp.Lexicographic.{pointwise_decides}
 use Rattle.refusals.proofs.Steps.{never, ok_if}
 use Rattle.docket.proofs.Answered.{read_by_place}
 use Rattle.docket.specs.declared.Docket.{Docket}
-use Rattle.docket.specs.Layout.{blank, wrong_place, unless_wrong, from_bytes4, from_bytes8, bytes4, bytes8, decoded, encoded, Sized, read_docket}
+use Rattle.docket.specs.Layout.{blank, wrong_place, unless_wrong, same_fields, from_bytes4, from_bytes8, bytes4, bytes8, decoded, encoded, Sized, read_docket}
 
 -- a quotient by a power of 256 is a quotient of the one before by 256
 by256 : (n k m : ℕ) → k * 256 ≡ m → n / m ≡ n / k / 256
@@ -144,8 +146,10 @@ lines_of ls h =
     let more : (i : ℕ) → i < 4 → drop i ls ≡ get_or ls i [] ∷ drop (i + 1) ls = λ i l. drop_more ls i [] (omega arith) in
     cc (more 0 (lit< tt), more 1 (lit< tt), more 2 (lit< tt), more 3 (lit< tt))
 
-same_docket : {p a k n p' n' : ℕ} {ls ls' : List (List ℕ)} → p ≡ p' → n ≡ n' → ls ≡ ls' → ◌≡◌ {A = Docket} (record { pool = p; account = a; count = k; number = n; lines = ls }) (record { pool = p'; account = a; count = k; number = n'; lines = ls' })
-same_docket e f g = simp (e, f, g)
+same_docket :
+    {p a k n p' a' k' n' : ℕ} {ls ls' : List (List ℕ)} → p ≡ p' → a ≡ a' → k ≡ k' → n ≡ n' → ls ≡ ls'
+    → ◌≡◌ {A = Docket} (record { pool = p; account = a; count = k; number = n; lines = ls }) (record { pool = p'; account = a'; count = k'; number = n'; lines = ls' })
+same_docket e f g h i = simp (e, f, g, h, i)
 
 -- what is written reads back equal
 pub reads_back : (d : Docket) → Sized d → decoded (encoded d) ≡ d
@@ -155,7 +159,7 @@ reads_back d s =
     let l = lines_of d.lines s.2 in
     let p = value4 d.pool s.0 in
     let n = value8 d.number s.1 in
-    same_docket p n (cc)
+    same_docket p refl refl n (cc)
 
 clear_since : (d : Docket) (clear : Bool) → None ≡ wrong_place d clear → clear ≡ true
 clear_since d true e = refl
@@ -212,3 +216,25 @@ read_written d e s h = (read_says (encoded d) e h).is ∙ reads_back d s
 pub same_from_bytes : (x y : Docket) (r : Bool) (a b : List ℕ) → Sized x → Sized y → a ≡ encoded x → b ≡ encoded y → Decides r (a ≡ b) → Decides r (x ≡ y)
 same_from_bytes x y r a b s t e f h =
     (λ q. sym (reads_back x s) ∙ (ap decoded (sym e ∙ (h.0 q ∙ f)) ∙ reads_back y t), λ q. h.1 (e ∙ (ap encoded q ∙ sym f)))
+
+-- all fields are equal exactly where the dockets are
+fields_tell : (x y : Docket) → same_fields x y ≡ true → x ≡ y
+fields_tell x y h =
+    let p = and_parts (nat_eq x.pool y.pool) _ h in
+    let a = and_parts (nat_eq x.account y.account) _ p.1 in
+    let k = and_parts (nat_eq x.count y.count) _ a.1 in
+    let n = and_parts (nat_eq x.number y.number) _ k.1 in
+    let ep : x.pool ≡ y.pool = eqb-true _ _ p.0 in
+    let ea : x.account ≡ y.account = eqb-true _ _ a.0 in
+    let ek : x.count ≡ y.count = eqb-true _ _ k.0 in
+    let en : x.number ≡ y.number = eqb-true _ _ n.0 in
+    let el : x.lines ≡ y.lines = (pointwise_decides (pointwise_decides Decides-eqb) x.lines y.lines).0 n.1 in
+    same_docket ep ea ek en el
+
+fields_own : (x : Docket) → same_fields x x ≡ true
+fields_own x =
+    both_true (eq-eqb x.pool x.pool refl) (both_true (eq-eqb x.account x.account refl) (both_true (eq-eqb x.count x.count refl) (both_true (eq-eqb x.number x.number refl)
+    ((pointwise_decides (pointwise_decides Decides-eqb) x.lines x.lines).1 refl))))
+
+pub fields_decide : (x y : Docket) → Decides (same_fields x y) (x ≡ y)
+fields_decide x y = (fields_tell x y, λ e. subst (λ z. same_fields x z ≡ true) e (fields_own x))

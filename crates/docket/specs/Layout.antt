@@ -1,6 +1,8 @@
 -- The docket's 80 bytes: what they say, and when they are well formed.
-use Rattle.std.specs.Prelude.{◌≡◌, ℕ, ◌+◌, ◌*◌, ◌/◌, ◌%◌, ◌<◌, Bool, true, false, cond, not, ◌&&◌, ◌||◌, List, [], ◌∷◌, ◌++◌, length, take, drop, Some, None, Ok, Err, Option, Result, ◌==◌, nat_le, nat_lt, slice_index, slice_index_or}
+use Rattle.std.specs.Prelude.{◌≡◌, ℕ, ◌+◌, ◌*◌, ◌/◌, ◌%◌, ◌<◌, Bool, true, cond, not, ◌&&◌, ◌||◌, List, [], ◌∷◌, ◌++◌, length, take, drop, Some, None, Ok, Err, Option, Result, ◌==◌, nat_eq, nat_le, nat_lt, slice_index, slice_index_or}
 use Rattle.std.specs.List.{between}
+use Rattle.std.specs.Ordering.{on, eq_of_both}
+use Rattle.std.specs.Cmp.Lexicographic.{pointwise}
 use Rattle.refusals.specs.Reading.{Reading, found, and_then, if_ok}
 use Rattle.refusals.specs.declared.Layer.TheVariants as layer
 use Rattle.docket.specs.declared.Docket.{Docket}
@@ -50,6 +52,15 @@ decoded bs = record {
   number = from_bytes8 (between 8 16 bs);
   lines = between 16 32 bs ∷ between 32 48 bs ∷ between 48 64 bs ∷ between 64 80 bs ∷ [];
 }
+
+-- all fields are equal
+abbrev pub same_fields : Docket → Docket → Bool
+same_fields =
+    eq_of_both (on (λ d. d.pool) nat_eq)
+    (eq_of_both (on (λ d. d.account) nat_eq)
+    (eq_of_both (on (λ d. d.count) nat_eq)
+    (eq_of_both (on (λ d. d.number) nat_eq)
+    (on (λ d. d.lines) (pointwise (pointwise nat_eq))))))
 
 -- what the type of a docket value says of its fields
 abbrev pub Sized : Docket → Type 0

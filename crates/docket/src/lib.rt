@@ -5,7 +5,7 @@ ghost use Rattle.std.specs.Prelude.{◌≡◌, ℕ, ◌+◌, ◌*◌, ◌<◌, �
 ghost use Rattle.std.specs.List.{between};
 ghost use Rattle.refusals.specs.Reading.{judged};
 ghost use Rattle.docket.specs.Faults.{docket_reading};
-ghost use Rattle.docket.specs.Layout.{blank, wrong_line, wrong_place, decoded, encoded, Sized, read_docket, write_answer, write_buffer, used_lines};
+ghost use Rattle.docket.specs.Layout.{blank, wrong_line, wrong_place, decoded, encoded, Sized, read_docket, write_answer, write_buffer, used_lines, same_fields};
 ghost use Rattle.std.specs.Cmp.Rules.{comparing};
 ghost use Rattle.std.proofs.Common.{rules};
 
@@ -30,11 +30,14 @@ pub struct Docket {
 
 // Two dockets are equal where all their fields are.
 impl PartialEq for Docket {
-    ghost equals = { λ x y r. Decides r (x ≡ y) };
+    ghost eq = { same_fields };
 
-    ghost laws = { Prim.search (comparing, rules) };
+    ghost laws = { Prim.search (comparing, rules) depth 14 };
 
-    fn eq(&self, other: &Docket) -> bool {
+    fn eq(&self, other: &Docket) -> bool
+        ensures answer { result ≡ same_fields self.now other.now }
+        ensures same { Decides result (self.now ≡ other.now) }
+    {
         self.to_bytes() == other.to_bytes()
     }
 }

@@ -3,4 +3,4 @@ use Rattle.docket.proofs.decode.Goals as goal
 
 pub returns : goal.returns
 unfolding decoded
-returns c = simp (c.from-be-bytes.ensures, c.from-be-bytes-2.ensures, c.copy-from-slice.ensures.after, c.line-at.ensures, c.line-at-2.ensures, c.line-at-3.ensures, c.line-at-4.ensures)
+returns c = simp (c.from_be_bytes.ensures, c.from_be_bytes-2.ensures, c.copy_from_slice.ensures.after, c.line_at.ensures, c.line_at-2.ensures, c.line_at-3.ensures, c.line_at-4.ensures)

@@ -10,13 +10,13 @@ returns-in-Some c =
 
 pub returns-then-out-lt80 : goal.returns-then-out-lt80
 returns-then-out-lt80 c =
-    let a = write_short c.args.self.now c.args.out.now c.in-default.ensures (omega arith) in
+    let a = write_short c.args.self.now c.args.out.now c.in_default.ensures (omega arith) in
     record { answer = a; buffer = buffer_same _ _ _ a; back = tt }
 
 pub returns : goal.returns
 returns c =
-    let a = write_fits c.args.self.now c.args.out.now c.in-default.ensures (omega arith) in
-    let l : length c.to-bytes.result ≡ 80 = search rules in
-    let f = put_front c.args.self.now _ c.put.new.out c.to-bytes.ensures.value l c.put.ensures.front in
+    let a = write_fits c.args.self.now c.args.out.now c.in_default.ensures (omega arith) in
+    let l : length c.to_bytes.result ≡ 80 = search rules in
+    let f = put_front c.args.self.now _ c.put.new.out c.to_bytes.ensures.value l c.put.ensures.front in
     let s = put_rest _ c.put.new.out c.args.out.now l c.put.ensures.rest in
-    record { answer = a; buffer = buffer_written c.args.self.now c.args.out.now c.put.new.out a f s; back = reads c.args.self.now _ _ c.to-bytes.ensures.sized c.in-default.ensures c.to-bytes.ensures.value l f }
+    record { answer = a; buffer = buffer_written c.args.self.now c.args.out.now c.put.new.out a f s; back = reads c.args.self.now _ _ c.to_bytes.ensures.sized c.in_default.ensures c.to_bytes.ensures.value l f }
