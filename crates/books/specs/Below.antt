@@ -1,6 +1,6 @@
 -- The moves of a layer, as a book below it sees them: the law below holds in every state that they reach.
 use Rattle.std.specs.Prelude.{◌≡◌, ℕ, Bool, true, ◌⊎◌, List, [], ◌∷◌, ◌≢◌, refl}
-use Rattle.std.proofs.Common.{sym, subst, inl, inr}
+use Rattle.std.proofs.Common.{subst, inl, inr}
 use Rattle.book.specs.Law.{Move, valid_move, next_move, after, all_valid, EitherOrder, WeaklyIndependent}
 use Rattle.std.proofs.lemmas.Bool.{and_parts, and_from}
 

@@ -1,9 +1,9 @@
 -- A line counts for its issuer alone, so the law of the book below holds of the allowance too.
 use Rattle.std.specs.Prelude.{◌≡◌, ℕ, ◌+◌, Bool, true, ltb, ◌≢◌, List, nat_lt, slice_set, refl}
 use Rattle.std.proofs.Common.{ap, sym, ◌∙◌, inl}
-use Rattle.book.specs.Law.{Move, valid_move, next_move, after, EitherOrder, WeaklyIndependent}
+use Rattle.book.specs.Law.{Move, valid_move, next_move, after, WeaklyIndependent}
 use Rattle.books.specs.Allowance.{Spent, spent, made, allowance_next, allowance_valid}
-use Rattle.books.specs.Below.{Seen, either_order_below}
+use Rattle.books.specs.Below.{either_order_below}
 use Rattle.std.proofs.lemmas.List.{get_or-set_other, set_comm}
 use Rattle.std.proofs.lemmas.Bool.{and_parts, and_from}
 
@@ -28,15 +28,15 @@ module _ {S : Type 0} (valid : S → ℕ → List ℕ → Bool) (next : S → �
 
   -- after a line of another account, one stays valid that does so below
   stays : (s : Spent S) (m n : Move) → m.account ≢ n.account → over s m ≡ true → valid_move valid (next_move next s.below n) m ≡ true → over (next_move (allowance_next next) s n) m ≡ true
-  stays s m n apart c stays-below =
+  stays s m n apart c stays_below =
       and_from (nat_lt (made (counted s.counts n.account) m.account) s.maximum) (valid_move valid (next_move next s.below n) m)
       (ap (λ k. ltb k s.maximum) (other_count s.counts n.account m.account apart) ∙ (parts s m c).0)
-      stays-below
+      stays_below
 
   ends : (s : Spent S) (m n : Move) → m.account ≢ n.account → next_move next (next_move next s.below m) n ≡ next_move next (next_move next s.below n) m → next_move (allowance_next next) (next_move (allowance_next next) s m) n ≡ next_move (allowance_next next) (next_move (allowance_next next) s n) m
-  ends s m n apart end_Below =
+  ends s m n apart end_below =
       ap (λ counts. spent s.maximum counts (next_move next (next_move next s.below m) n)) (both_counted s.counts m.account n.account apart)
-      ∙ ap (λ below. spent s.maximum (counted (counted s.counts n.account) m.account) below) end_Below
+      ∙ ap (λ below. spent s.maximum (counted (counted s.counts n.account) m.account) below) end_below
 
   pub allowance_independent : (s : Spent S) → WeaklyIndependent valid next s.below → WeaklyIndependent (allowance_valid valid) (allowance_next next) s
   allowance_independent s law before m n reached apart c d =

@@ -1,7 +1,7 @@
 -- A move of a pair is one of its first book or of its second; moves of different sides never meet.
 use Rattle.std.specs.Prelude.{◌≡◌, ℕ, Bool, true, false, cond, List, refl}
 use Rattle.std.proofs.Common.{ap, inl, inr}
-use Rattle.book.specs.Law.{Move, valid_move, next_move, after, all_valid, EitherOrder, WeaklyIndependent}
+use Rattle.book.specs.Law.{Move, valid_move, next_move, after, EitherOrder, WeaklyIndependent}
 use Rattle.book.specs.Line.{kind}
 use Rattle.books.specs.Pair.{Both, both, pair_next, pair_valid}
 use Rattle.books.specs.Below.{Seen, either_order_below}

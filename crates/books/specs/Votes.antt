@@ -1,5 +1,5 @@
 -- A vote changes its issuer's paper alone, so votes of two issuers can be made in either order.
-use Rattle.std.specs.Prelude.{◌≡◌, ℕ, true, ◌≢◌, List, [], Some, None, Option, slice_set, refl}
+use Rattle.std.specs.Prelude.{◌≡◌, ℕ, true, ◌≢◌, List, Some, None, Option, slice_set, refl}
 use Rattle.std.proofs.Common.{ap, sym, ◌∙◌}
 use Rattle.book.specs.Law.{Move, EitherOrder}
 use Rattle.books.specs.Ballots.{Paper, paper, vote_in, may_vote, voted, ballot_valid, ballot_next}

@@ -25,9 +25,9 @@ fn no_lines() -> [u16; 64]
 impl<B: Book> Allowance<B> {
     // Stands over a book at its opening.
     pub fn new(mut below: B, maximum: u16) -> Allowance<B>
-        ensures opening { spent result.maximum no_lines (opening result.below) ≡ spent maximum no_lines (opening below) }
-        ensures kept { spent result.maximum result.kept (kept result.below) ≡ spent maximum no_lines (opening below) }
-        ensures current { spent result.maximum result.current (current result.below) ≡ spent maximum no_lines (opening below) }
+        ensures opening { spent result.maximum no_lines (B.opening result.below) ≡ spent maximum no_lines (B.opening below) }
+        ensures kept { spent result.maximum result.kept (B.kept result.below) ≡ spent maximum no_lines (B.opening below) }
+        ensures current { spent result.maximum result.current (B.current result.below) ≡ spent maximum no_lines (B.opening below) }
     {
         below.reset();
         Allowance {
@@ -44,25 +44,25 @@ impl<B: Book> Book for Allowance<B> {
 
     type Answer = B::Answer;
 
-    ghost State = { Spent B.Book.State };
+    ghost State = { Spent B.State };
 
-    ghost opening = { λ a. spent a.maximum no_lines (B.Book.opening a.below) };
+    ghost opening = { λ a. spent a.maximum no_lines (B.opening a.below) };
 
-    ghost kept = { λ a. spent a.maximum a.kept (B.Book.kept a.below) };
+    ghost kept = { λ a. spent a.maximum a.kept (B.kept a.below) };
 
-    ghost current = { λ a. spent a.maximum a.current (B.Book.current a.below) };
+    ghost current = { λ a. spent a.maximum a.current (B.current a.below) };
 
-    ghost listed = { B.Book.listed };
+    ghost listed = { B.listed };
 
-    ghost valid = { allowance_valid B.Book.valid };
+    ghost valid = { allowance_valid B.valid };
 
-    ghost next = { allowance_next B.Book.next };
+    ghost next = { allowance_next B.next };
 
-    ghost answer = { allowance_answer B.Book.answer };
+    ghost answer = { allowance_answer B.answer };
 
     ghost kinds = { Prim.search rules };
 
-    ghost independence = { λ a. allowance_independent B.Book.valid B.Book.next (spent a.maximum no_lines (B.Book.opening a.below)) (B.Book.independence a.below) };
+    ghost independence = { λ a. allowance_independent B.valid B.next (spent a.maximum no_lines (B.opening a.below)) (B.independence a.below) };
 
     fn lists(kind: u8) -> bool {
         B::lists(kind)

@@ -29,9 +29,9 @@ pub struct Pair<A, B> {
 impl<A: Book, B: Book> Pair<A, B> {
     // Two books, each at its opening.
     pub fn new(mut first: A, mut second: B) -> Pair<A, B>
-        ensures opening { both (A.Book.opening result.first) (B.Book.opening result.second) ≡ both (A.Book.opening first) (B.Book.opening second) }
-        ensures kept { both (A.Book.kept result.first) (B.Book.kept result.second) ≡ both (A.Book.opening first) (B.Book.opening second) }
-        ensures current { both (A.Book.current result.first) (B.Book.current result.second) ≡ both (A.Book.opening first) (B.Book.opening second) }
+        ensures opening { both (A.opening result.first) (B.opening result.second) ≡ both (A.opening first) (B.opening second) }
+        ensures kept { both (A.kept result.first) (B.kept result.second) ≡ both (A.opening first) (B.opening second) }
+        ensures current { both (A.current result.first) (B.current result.second) ≡ both (A.opening first) (B.opening second) }
     {
         first.reset();
         second.reset();
@@ -44,29 +44,29 @@ impl<A: Book, B: Book> Book for Pair<A, B> {
 
     type Answer = PairAnswer<A::Answer, B::Answer>;
 
-    ghost State = { Both A.Book.State B.Book.State };
+    ghost State = { Both A.State B.State };
 
-    ghost opening = { λ p. both (A.Book.opening p.first) (B.Book.opening p.second) };
+    ghost opening = { λ p. both (A.opening p.first) (B.opening p.second) };
 
-    ghost kept = { λ p. both (A.Book.kept p.first) (B.Book.kept p.second) };
+    ghost kept = { λ p. both (A.kept p.first) (B.kept p.second) };
 
-    ghost current = { λ p. both (A.Book.current p.first) (B.Book.current p.second) };
+    ghost current = { λ p. both (A.current p.first) (B.current p.second) };
 
-    ghost listed = { pair_listed A.Book.listed B.Book.listed };
+    ghost listed = { pair_listed A.listed B.listed };
 
-    ghost valid = { pair_valid A.Book.listed A.Book.valid B.Book.valid };
+    ghost valid = { pair_valid A.listed A.valid B.valid };
 
-    ghost next = { pair_next A.Book.listed A.Book.next B.Book.next };
+    ghost next = { pair_next A.listed A.next B.next };
 
-    ghost answer = { pair_answer A.Book.answer B.Book.answer };
+    ghost answer = { pair_answer A.answer B.answer };
 
     ghost kinds = { Prim.search rules };
 
     ghost independence = { λ p.
-        pair-independent A.Book.listed A.Book.valid A.Book.next B.Book.valid B.Book.next
-        (both (A.Book.opening p.first) (B.Book.opening p.second))
-        (A.Book.independence p.first)
-        (B.Book.independence p.second) };
+        pair_independent A.listed A.valid A.next B.valid B.next
+        (both (A.opening p.first) (B.opening p.second))
+        (A.independence p.first)
+        (B.independence p.second) };
 
     fn lists(kind: u8) -> bool {
         A::lists(kind) || B::lists(kind)
