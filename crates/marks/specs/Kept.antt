@@ -1,18 +1,10 @@
--- What tables of marks hold, and keep. Assumes nothing.
-use Rattle.std.specs.Prelude.{◌≡◌, ℕ, zero, suc, ◌+◌, ◌≤◌, Bool, true, false, cond, not, ◌&&◌, ltb, List, [], ◌∷◌, length, get_or, replicate, is_some, IfSome, is_ok, is_err, Some, None, Ok, Err, Option, Result, OnOk, ◌==◌, ◌≢◌, nat_lt, slice_index_or, slice_set, refl}
-use Rattle.std.proofs.Common.{arith, sym, ◌∙◌, ap, subst, inl, inr}
-use Rattle.std.proofs.lemmas.List.{length-set, get_or-set_same, get_or-set_other, get_or-replicate, get_or_past, length-replicate}
-use Rattle.std.proofs.lemmas.Bool.{and_parts, and_from, eqb-true, eq-eqb, ne_eqb, le-ltb, ltb-false, cases_eq, cases_lt, cond-false, and_right, false≢true}
-use Rattle.refusals.specs.Reading.{Reading, found, and_then, judged}
-use Rattle.refusals.specs.declared.Layer.TheVariants as layer
+-- Each mark of a table is a well-formed docket of its account, as the table store's law says: a law cites nothing of proofs/.
+use Rattle.std.specs.Prelude.{◌≡◌, ℕ, zero, suc, ◌+◌, ◌≤◌, Bool, true, false, cond, not, ◌&&◌, List, [], ◌∷◌, is_some, Some, None, Option, ◌==◌, ◌≢◌, nat_lt, slice_index_or, refl}
+use Rattle.std.proofs.Common.{arith, sym, ◌∙◌, ap}
+use Rattle.std.proofs.lemmas.Bool.{and_parts, eqb-true, ltb-false, false≢true}
 use Rattle.docket.specs.declared.Docket.{Docket}
-use Rattle.docket.specs.declared.faults.DocketFault.{DocketFault}
-use Rattle.docket.specs.Faults.{docket_reading}
-use Rattle.docket.specs.Layout.{wrong_place, unless_wrong, encoded, Sized, read_docket}
-use Rattle.docket.proofs.RoundTrip.{reads, length_encoded, read_says}
-use Rattle.docket.specs.Layout as docket
-use Rattle.marks.specs.Marks.{well_formed, MarkOf, mark_after, is_mark, are_marks, Marked}
-use Rattle.marks.specs.Outcomes.{lands, next_outcome}
+use Rattle.docket.specs.Layout.{wrong_place}
+use Rattle.marks.specs.Marks.{well_formed, MarkOf, is_mark, are_marks, Marked}
 
 none_of : (o : Option ℕ) → not (is_some o) ≡ true → o ≡ None
 none_of None h = refl
@@ -51,98 +43,3 @@ mark_of ms a d own e =
     let p = mark_at 0 ms a d own.1 e in
     let s = account_of_lem d p.1 in
     (formed d p.1, omega (arith, p.0), omega (arith, p.0))
-
-marks_set : (k : ℕ) (ms : List (Option Docket)) (a : ℕ) (d : Docket) → are_marks k ms ≡ true → d.account ≡ k + a → well_formed d ≡ true → are_marks k (slice_set ms a (Some d)) ≡ true
-marks_set k [] a d h e w = refl
-marks_set k (m ∷ ms) zero d h e w =
-    let q : d.account ≡ k = omega arith in
-    and_from _ _ (and_from _ _ (eq-eqb _ _ q) w) (and_parts (is_mark k m) (are_marks (k + 1) ms) h).1
-marks_set k (m ∷ ms) (suc a) d h e w =
-    let p = and_parts (is_mark k m) (are_marks (k + 1) ms) h in
-    and_from _ _ p.0 (marks_set (k + 1) ms a d p.1 (omega arith) w)
-
-pub marked_set : (ms : List (Option Docket)) (d : Docket) → Marked ms → well_formed d ≡ true → Marked (slice_set ms d.account (Some d))
-marked_set ms d own w = (length-set ms d.account (Some d) ∙ own.0, marks_set 0 ms d.account d own.1 (omega arith) w)
-
-abbrev none : Option Docket
-none = None
-
-pub unmarked : (n a : ℕ) → slice_index_or (replicate n none) a None ≡ None
-unmarked n a =
-    elim (cases_lt a n) [
-      | inl h ↦ get_or-replicate n a None None h
-      | inr h ↦ get_or_past (replicate n None) a None (let l = length-replicate n none in omega arith)
-    ]
-
--- a mark that lands is its account's, and the others are as they were
-pub landed :
-    (ms : List (Option Docket)) (row : List ℕ) (d : Docket) (a : ℕ) → length ms ≡ 64 → well_formed d ≡ true → lands (next_outcome row) ≡ true
-    → slice_index_or (slice_set ms d.account (Some d)) a None ≡ mark_after (λ b. get_or ms b None) row d a
-landed ms row d a l w o =
-    elim (cases_eq a d.account) [
-      | inl e ↦
-          let t = eq-eqb a d.account e in
-          let s : d.account ≤ 63 = account_of_lem d w in
-          let g = get_or-set_same ms d.account (Some d) None (omega arith) in
-          cc
-      | inr ne ↦ let t = ne_eqb a d.account ne in let g = get_or-set_other ms d.account a (Some d) None ne in cc
-    ]
-
--- one that does not land changes nothing
-pub not_landed :
-    (mark : ℕ → Option Docket) (row : List ℕ) (d : Docket) (a : ℕ) → (well_formed d && lands (next_outcome row)) ≡ false → mark a ≡ mark_after mark row d a
-not_landed mark row d a o = sym (cond-false _ (Some d) (mark a) (and_right _ _ o))
-
--- what the docket's writer answers tells whether the docket is well formed
-ok_judged : {T E : Type 0} (reading : E → Reading) (r : Result T E) → is_ok (judged reading r) ≡ is_ok r
-ok_judged reading (Ok x) = refl
-ok_judged reading (Err e) = refl
-
-ok_err : {T E : Type 0} (r : Result T E) → is_ok r ≡ not (is_err r)
-ok_err (Ok x) = refl
-ok_err (Err e) = refl
-
-pub read_ok : (r : Result Docket DocketFault) (x : Result Docket Reading) (b : Bool) → judged docket_reading r ≡ x → b ≡ is_err r → is_ok x ≡ not b
-read_ok r x b e h = sym (ap is_ok e) ∙ (ok_judged docket_reading r ∙ (ok_err r ∙ ap not (sym h)))
-
-pub made_ok : {T E : Type 0} (P : Type 0) (r : Result T E) → is_ok r ≡ true → OnOk r (P) → P
-made_ok P (Ok x) h m = m
-made_ok P (Err e) h m = absurd (false≢true h)
-
-ok_written : (o : Option ℕ) (out : List ℕ) → length out ≡ 80 → is_ok (and_then (unless_wrong (tt {0}) o) (λ _. cond (nat_lt (length out) 80) (Err (found layer.Docket 19 0)) (Ok (tt {0})))) ≡ not (is_some o)
-ok_written None out l = let t : ltb (length out) 80 ≡ false = le-ltb _ _ (omega arith) in rw t
-ok_written (Some place) out l = refl
-
-pub formed_answer : (d : Docket) (out : List ℕ) (r : Result (Unit {0}) DocketFault) → length out ≡ 80 → judged docket_reading r ≡ docket.writeAnswer d out → is_ok r ≡ well_formed d
-unfolding docket.writeAnswer
-formed_answer d out r l e = sym (ok_judged docket_reading r) ∙ (ap is_ok e ∙ ok_written (wrong_place d true) out l)
-
--- a mark reads back equal
-pub back : (d : Docket) → Sized d → well_formed d ≡ true → read_docket (encoded d) ≡ Ok d
-back d s w = reads d (encoded d) (encoded d) s (sym (formed d w)) refl (length_encoded d s) refl
-
-pub some_formed : (ms : List (Option Docket)) (a : ℕ) (m : Option Docket) → Marked ms → m ≡ slice_index_or ms a None → IfSome m (λ d. well_formed d ≡ true)
-some_formed ms a None own e = tt
-some_formed ms a (Some d) own e = (mark_at 0 ms a d own.1 (sym e)).1
-
-pub back_of :
-    (m : Option Docket) (d : Docket) → m ≡ Some d → Sized d → IfSome m (λ e. well_formed e ≡ true)
-    → IfSome m (λ e. read_docket (encoded e) ≡ Ok e)
-back_of None d is s w = tt
-back_of (Some e) d is s w = let q : d ≡ e = cc in back e (subst Sized q s) w
-
--- what is read is well formed
-never_clear : (a b : Bool) → ◌≡◌ {A = Option ℕ} None (cond a (Some 4) (cond b (Some 5) (Some 6))) → ⊥
-never_clear true b h = some_not_none 4 h
-never_clear false true h = some_not_none 5 h
-never_clear false false h = some_not_none 6 h
-
-clear_of : (d : Docket) (clear : Bool) → None ≡ wrong_place d clear → None ≡ wrong_place d true
-clear_of d true e = e
-clear_of d false e = absurd (never_clear (nat_lt 63 d.account) _ e)
-
-pub read_formed : (bs : List ℕ) (d : Docket) → read_docket bs ≡ Ok d → well_formed d ≡ true
-read_formed bs d e = sym (ap (λ o. not (is_some o)) (clear_of d _ (read_says bs d e).fine))
-
-pub account_read : (bs : List ℕ) (d : Docket) → read_docket bs ≡ Ok d → d.account ≤ 63
-account_read bs d e = account_of_lem d (read_formed bs d e)

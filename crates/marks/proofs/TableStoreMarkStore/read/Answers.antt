@@ -1,6 +1,6 @@
 use Rattle.std.proofs.Common.{ap, ◌∙◌, subst}
 use Rattle.marks.specs.Marks.{read_answer, read_buffer, ReadsBack}
-use Rattle.marks.specs.Kept.{some_formed}
+use Rattle.marks.proofs.Kept.{some_formed}
 use Rattle.marks.proofs.TableStoreMarkStore.read.Goals as goal
 
 pub returns : goal.returns

@@ -2,12 +2,12 @@ use Rattle.std.proofs.Common.{sym, ap, ◌∙◌}
 use Rattle.std.proofs.lemmas.Bool.{and_right}
 use Rattle.marks.specs.Outcomes.{lands, stands}
 use Rattle.marks.specs.Table.{mark_in, row_in, owner_in}
-use Rattle.marks.specs.Kept.{marked_set, landed, not_landed}
+use Rattle.marks.proofs.Kept.{marked_set, landed, not_landed}
 use Rattle.marks.proofs.table.TableStore.land.Goals as goal
 use Rattle.marks.proofs.table.TableStore.land.Goals.{then-lands, else-lands}
 
-pub invariant-of-self : goal.invariant-of-self
-invariant-of-self c = (marked_set c.args.self.now.marks c.args.docket.now c.args.self.now.own c.requires, tt)
+pub invariant_of-self : goal.invariant_of-self
+invariant_of-self c = record { own = marked_set c.args.self.now.marks c.args.docket.now c.args.self.now.own c.requires }
 
 pub returns : goal.returns
 returns c =

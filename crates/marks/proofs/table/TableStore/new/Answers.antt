@@ -1,5 +1,5 @@
 use Rattle.std.proofs.Common.{refl}
-use Rattle.marks.specs.Kept.{unmarked}
+use Rattle.marks.proofs.Kept.{unmarked}
 use Rattle.marks.proofs.table.TableStore.new.Goals as goal
 
 pub returns : goal.returns
