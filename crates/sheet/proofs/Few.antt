@@ -8,7 +8,7 @@ use Rattle.docket.specs.Layout.{read_docket}
 use Rattle.sheet.specs.Sheet.{records, of_account, last_of, stays_by, keep_last}
 use Rattle.sheet.proofs.Records.{or_none}
 use Rattle.sheet.proofs.Keeping.{other_none}
-use Rattle.marks.specs.Kept.{account_read}
+use Rattle.marks.proofs.Kept.{account_read}
 
 bit : Bool → ℕ
 bit true = 1

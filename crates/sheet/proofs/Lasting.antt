@@ -1,53 +1,23 @@
 -- What a sheet means after a write, and after a list of them. Assumes nothing.
-use Rattle.std.proofs.Common.{◌≡◌, ℕ, ◌+◌, ◌-◌, ◌<◌, ◌≤◌, Bool, true, false, cond, ◌&&◌, eqb, ◌⊎◌, List, [], ◌∷◌, ◌++◌, length, drop, IfSome, is_ok, Some, None, Ok, Err, Option, Result, sym, refl, ap, ◌∙◌, subst, inl, inr, arith, MatchResult}
+use Rattle.std.proofs.Common.{◌≡◌, ℕ, ◌+◌, ◌-◌, ◌<◌, ◌≤◌, Bool, true, false, cond, ◌&&◌, eqb, List, [], ◌∷◌, ◌++◌, length, drop, IfSome, is_ok, Some, None, Ok, Err, Option, Result, sym, refl, ap, ◌∙◌, subst, inl, inr, arith, MatchResult}
 use Rattle.std.specs.List.{between}
 use Rattle.std.proofs.lemmas.Slice.{between_to_end}
 use Rattle.std.specs.Option.{option_or}
-use Rattle.std.proofs.lemmas.Bool.{and_parts, and_from, and_left, and_right, eqb-true, eq-eqb, ne_eqb, cases_eq, cases_Bool, cond-true, cond-false, false≢true}
-use Rattle.refusals.specs.Reading.{Reading}
+use Rattle.std.proofs.lemmas.Bool.{and_parts, and_from, and_left, and_right, eq-eqb, ne_eqb, cases_eq, cases_Bool, cond-true, cond-false, false≢true}
 use Rattle.docket.specs.declared.Docket.{Docket}
 use Rattle.docket.specs.Layout.{blank, read_docket, encoded}
 use Rattle.marks.specs.Outcomes.{lands, stands, next_outcome, rest_of_row, lasting}
-use Rattle.marks.specs.Marks.{well_formed, MarkOf, write_answer, mark_after, row_after}
+use Rattle.marks.specs.Marks.{well_formed, write_answer, mark_after, row_after}
 use Rattle.sheet.specs.Sheet.{count_of, end_of, fit, record_at, records, of_account, last_of, stays_by, keep_last, contents, with_room, owner_on, mark_on, row_on, head_clear, all_read, rest_clear, well_laid, SameHead, Wrote, Written, marks_after, lent, OpensSheet, Lasts}
 use Rattle.marks.specs.declared.fault.StoreFault.{StoreFault}
 use Rattle.sheet.specs.declared.Sheet.{Sheet}
 use Rattle.sheet.proofs.Records.{or_assoc, or_none, records_none, records_more}
 use Rattle.sheet.proofs.Keeping.{kept_last}
-use Rattle.marks.specs.Kept.{formed, account_of_lem, read_formed, not_landed, some_not_none}
+use Rattle.marks.proofs.Kept.{not_landed}
+use Rattle.sheet.specs.Own.{on_is}
 use Rattle.sheet.proofs.Heads.{fits, fits_from}
 
--- every mark on a sheet is a well-formed docket of its account
-or_cases : (x y : Option Docket) (d : Docket) → option_or x y ≡ Some d → (x ≡ Some d) ⊎ (y ≡ Some d)
-or_cases None y d e = inr e
-or_cases (Some z) y d e = inl e
-
-if_some : (b : Bool) (e d : Docket) → cond b (Some e) None ≡ Some d → (b ≡ true) × (e ≡ d)
-if_some true e d h = (refl, cc)
-if_some false e d h = absurd (some_not_none d h)
-
-of_is : (a : ℕ) (r : List ℕ) (x : Result Docket Reading) (d : Docket) → read_docket r ≡ x → of_account a x ≡ Some d → (well_formed d ≡ true) × (d.account ≡ a)
-of_is a r (Err e) d is h = absurd (some_not_none d h)
-of_is a r (Ok e) d is h =
-    let p = if_some (eqb e.account a) e d h in
-    let q : d.account ≡ e.account = ap (λ z. z.account) (sym p.1) in
-    (read_formed r d (is ∙ ap Ok p.1), q ∙ eqb-true e.account a p.0)
-
-last_is : (a : ℕ) (rs : List (List ℕ)) (d : Docket) → last_of a rs ≡ Some d → (well_formed d ≡ true) × (d.account ≡ a)
-last_is a [] d e = absurd (some_not_none d e)
-last_is a (r ∷ rs) d e =
-    elim (or_cases (last_of a rs) (of_account a (read_docket r)) d e) [ inl h ↦ last_is a rs d h | inr h ↦ of_is a r (read_docket r) d refl h ]
-
-on_is : (b : Bool) (a : ℕ) (rs : List (List ℕ)) (d : Docket) → cond b (last_of a rs) None ≡ Some d → (well_formed d ≡ true) × (d.account ≡ a)
-on_is true a rs d e = last_is a rs d e
-on_is false a rs d e = absurd (some_not_none d e)
-
-pub mark_on_lem : (bs : List ℕ) (a : ℕ) (d : Docket) → mark_on bs a ≡ Some d → MarkOf a d
-mark_on_lem bs a d e =
-    let p = on_is (fit bs) a (contents bs) d e in
-    let s = account_of_lem d p.0 in
-    (formed d p.0, p.1, omega (arith, p.1))
-
+-- what is read on a sheet is well formed
 pub on_formed : (bs : List ℕ) (a : ℕ) (m : Option Docket) → m ≡ mark_on bs a → IfSome m (λ d. well_formed d ≡ true)
 on_formed bs a None e = tt
 on_formed bs a (Some d) e = (on_is (fit bs) a (contents bs) d (sym e)).0

@@ -1,5 +1,5 @@
 -- Space for another record, and the record written there. Assumes nothing.
-use Rattle.std.proofs.Common.{◌≡◌, ℕ, suc, ◌+◌, ◌-◌, ◌<◌, ◌≤◌, true, false, ltb, List, [], ◌∷◌, ◌++◌, length, take, drop, sym, ap, ◌∙◌, subst, arith}
+use Rattle.std.proofs.Common.{◌≡◌, ℕ, suc, ◌+◌, ◌<◌, ◌≤◌, true, false, ltb, List, [], ◌∷◌, ◌++◌, length, take, drop, sym, ap, ◌∙◌, subst, arith}
 use borrow.Rule.Slice.PartMut.{put_mid}
 use Rattle.std.proofs.lemmas.List.{drop-drop, drop_all, append-nil}
 use Rattle.std.proofs.lemmas.Slice.{drop-put_mid}
@@ -42,8 +42,8 @@ module _ (left : ℕ) (was moved clear now' : List ℕ) (full : length was < end
       ∙ (ap (λ x. blank (drop (end_of left) x)) counts ∙ (ap blank (drop_counted left clear (end_of left) (omega arith)) ∙ h))
 
 -- a well-formed docket fills the place that it is written to
-pub written_is : (d : Docket) (out : List ℕ) → well_formed d ≡ true → length out ≡ 80 → docket.writeBuffer d out ≡ encoded d
-unfolding docket.writeBuffer docket.writeAnswer
+pub written_is : (d : Docket) (out : List ℕ) → well_formed d ≡ true → length out ≡ 80 → docket.write_buffer d out ≡ encoded d
+unfolding docket.write_buffer docket.write_answer
 written_is d out w l =
     let f = formed d w in
     let t : ltb (length out) 80 ≡ false = le-ltb _ _ (omega arith) in

@@ -4,6 +4,7 @@
 ghost use Rattle.std.specs.Prelude.{◌≡◌, ℕ, ◌+◌, ◌-◌, ◌<◌, ◌≤◌, true, ◌&&◌, [], ◌∷◌, ◌++◌, length, take, drop, IfOk, Ok, ◌≢◌};
 ghost use Rattle.docket.specs.Layout.{blank, read_docket, encoded};
 ghost use Rattle.sheet.specs.Sheet.{count_of, end_of, fit, record_at, records, of_account, last_of, stays_by, keep_last, counted, contents, with_room, owner_on, mark_on, row_on, head_clear, all_read, rest_clear, well_laid, SameHead, Wrote, Lasts, lent, OpensSheet};
+ghost use Rattle.sheet.specs.Own.{mark_on_lem};
 ghost use Rattle.marks.specs.Marks.{well_formed, write_answer, mark_after, row_after};
 
 use docket::Docket;
@@ -252,6 +253,8 @@ impl<'a> MarkStore for Sheet<'a> {
     ghost mark = { λ sheet. mark_on (lent sheet) };
 
     ghost row = { λ sheet. row_on (lent sheet) };
+
+    ghost own = { λ sheet. mark_on_lem (lent sheet) };
 
     fn owner(&self) -> u8 {
         if self.bytes.is_empty() {

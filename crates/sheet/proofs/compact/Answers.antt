@@ -13,7 +13,7 @@ loop-i-preserved c =
     elim c.if-stays.branch [
       | then-stays w ↦
           keeps_more c.args.count c.loop-i.i c.loop-i.place _ _ c.loop-i.bytes _ _ c.loop-i.invariant (omega arith) w.if-stays.ensures
-          w.copy-record.ensures.record w.copy-record.ensures.others w.copy-record.ensures.head w.bytes-is w.place-is
+          w.copy_record.ensures.record w.copy_record.ensures.others w.copy_record.ensures.head w.bytes-is w.place-is
       | else-stays w ↦
           keeps_less c.args.count c.loop-i.i c.loop-i.place _ _ c.loop-i.bytes _ c.loop-i.invariant (omega arith) w.if-stays.ensures
           w.bytes-is w.place-is

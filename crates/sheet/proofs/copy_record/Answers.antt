@@ -7,10 +7,10 @@ pub returns : goal.returns
 returns c =
     let to = c.args.to in
     let within : end_of to + 80 ≤ length c.args.bytes.now = search rules in
-    let long : length c.copy-from-slice-2.new.self ≡ 80 = search rules in
+    let long : length c.copy_from_slice-2.new.self ≡ 80 = search rules in
     record {
-      «record» = record_put to _ c.args.bytes.now c.copy-from-slice-2.new.self within long (omega arith)
-          ∙ (c.copy-from-slice-2.ensures.after ∙ c.copy-from-slice.ensures.after);
-      others = record_other to _ c.args.bytes.now c.copy-from-slice-2.new.self within long (omega arith);
-      head = head_put to _ c.args.bytes.now c.copy-from-slice-2.new.self within long (omega arith);
+      «record» = record_put to _ c.args.bytes.now c.copy_from_slice-2.new.self within long (omega arith)
+          ∙ (c.copy_from_slice-2.ensures.after ∙ c.copy_from_slice.ensures.after);
+      others = record_other to _ c.args.bytes.now c.copy_from_slice-2.new.self within long (omega arith);
+      head = head_put to _ c.args.bytes.now c.copy_from_slice-2.new.self within long (omega arith);
     }

@@ -8,8 +8,8 @@ pub returns : goal.returns
 returns c =
     let was = c.args.bytes.now in
     let moved = c.compact-left.new.bytes in
-    let clear = c.clear-rest.new.bytes in
-    let end = c.set-count.new.bytes in
+    let clear = c.clear_rest.new.bytes in
+    let end = c.set_count.new.bytes in
     let left = c.compact-left.result in
     let f = fits was c.requires in
     let full : length was < end_of (count_of was) + 80 = omega (arith, c.count-count.ensures, c.if-count-bytes.false) in
@@ -18,8 +18,8 @@ returns c =
     let long : length clear ≡ length end = search rules in
     let kept = c.compact-left.ensures.left ∙ ap (λ n. keep_last (records 0 n was)) c.count-count.ensures in
     record {
-      rows = room_rows left was moved clear end full c.compact-left.ensures.few low long kept c.clear-rest.ensures.front c.set-count.ensures;
-      space = room_space left was moved clear end full c.compact-left.ensures.few low long kept c.clear-rest.ensures.front c.set-count.ensures;
-      head = room_head left was moved clear end full c.compact-left.ensures.few low long kept c.clear-rest.ensures.front c.set-count.ensures c.compact-left.ensures.head;
-      rest = λ _. room_rest left was moved clear end full c.compact-left.ensures.few low long kept c.clear-rest.ensures.front c.set-count.ensures c.clear-rest.ensures.rest;
+      rows = room_rows left was moved clear end full c.compact-left.ensures.few low long kept c.clear_rest.ensures.front c.set_count.ensures;
+      space = room_space left was moved clear end full c.compact-left.ensures.few low long kept c.clear_rest.ensures.front c.set_count.ensures;
+      head = room_head left was moved clear end full c.compact-left.ensures.few low long kept c.clear_rest.ensures.front c.set_count.ensures c.compact-left.ensures.head;
+      rest = λ _. room_rest left was moved clear end full c.compact-left.ensures.few low long kept c.clear_rest.ensures.front c.set_count.ensures c.clear_rest.ensures.rest;
     }

@@ -5,28 +5,28 @@ use Rattle.sheet.proofs.Heads.{head_then}
 use Rattle.sheet.proofs.Lasting.{wrote, wrote_malformed, wrote_unfit, answer_malformed, answer_unfit, answer_stood}
 use Rattle.sheet.proofs.write_mark.Goals as goal
 
-pub returns-then-not-is-well-formed : goal.returns-then-not-is-well-formed
-returns-then-not-is-well-formed c =
-    let w : well_formed c.args.docket.now ≡ false = sym c.is-well-formed.ensures ∙ c.if-not-is-well-formed.true in
+pub returns-then-not-is_well_formed : goal.returns-then-not-is_well_formed
+returns-then-not-is_well_formed c =
+    let w : well_formed c.args.docket.now ≡ false = sym c.is_well_formed.ensures ∙ c.if-not-is_well_formed.true in
     record { answer = answer_malformed c.args.bytes.now c.args.docket.now w; wrote = wrote_malformed c.args.bytes.now c.args.docket.now w }
 
-pub returns-then-not-is-fit : goal.returns-then-not-is-fit
-returns-then-not-is-fit c =
-    let f : fit c.args.bytes.now ≡ false = sym c.is-fit.ensures ∙ c.if-not-is-fit.true in
+pub returns-then-not-is_fit : goal.returns-then-not-is_fit
+returns-then-not-is_fit c =
+    let f : fit c.args.bytes.now ≡ false = sym c.is_fit.ensures ∙ c.if-not-is_fit.true in
     record { answer = answer_unfit c.args.bytes.now c.args.docket.now f; wrote = wrote_unfit c.args.bytes.now c.args.docket.now f }
 
 pub returns : goal.returns
 returns c =
     let was = c.args.bytes.now in
     let d = c.args.docket.now in
-    let room = c.make-room.new.bytes in
+    let room = c.make_room.new.bytes in
     let end = c.append.new.bytes in
-    let w : well_formed d ≡ true = sym c.is-well-formed.ensures ∙ c.if-not-is-well-formed.false in
-    let f : fit was ≡ true = sym c.is-fit.ensures ∙ c.if-not-is-fit.false in
+    let w : well_formed d ≡ true = sym c.is_well_formed.ensures ∙ c.if-not-is_well_formed.false in
+    let f : fit was ≡ true = sym c.is_fit.ensures ∙ c.if-not-is_fit.false in
     let same : length end ≡ length was = search rules in
     record {
       answer = c.append.ensures.stood ∙ answer_stood was d w f;
       wrote =
-          wrote was room end d w f same c.append.ensures.space c.append.ensures.back c.make-room.ensures.rows c.append.ensures.rows
-          (head_then was room end c.make-room.ensures.head c.append.ensures.head) (λ h. c.append.ensures.rest (c.make-room.ensures.rest h));
+          wrote was room end d w f same c.append.ensures.space c.append.ensures.back c.make_room.ensures.rows c.append.ensures.rows
+          (head_then was room end c.make_room.ensures.head c.append.ensures.head) (λ h. c.append.ensures.rest (c.make_room.ensures.rest h));
     }

@@ -3,5 +3,5 @@ use Rattle.sheet.proofs.SheetMarkStore.write.Goals as goal
 
 pub returns : goal.returns
 returns c =
-    let w = c.write-mark.ensures.wrote in
-    record { answer = c.write-mark.ensures.answer; marks = w.marks; row = w.row; owner = w.owner; wrote = w; place = refl }
+    let w = c.write_mark.ensures.wrote in
+    record { answer = c.write_mark.ensures.answer; marks = w.marks; row = w.row; owner = w.owner; wrote = w; place = refl }
