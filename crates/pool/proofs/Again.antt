@@ -1,11 +1,11 @@
 -- What was read once reads again from its own layout, so that no two dockets have one layout. Assumes nothing.
-use Rattle.std.proofs.Common.{◌≡◌, ℕ, ◌<◌, ◌≤◌, Bool, true, false, List, [], ◌∷◌, length, get_or, None, Ok, Result, sym, refl, ap, ◌∙◌, subst, arith}
+use Rattle.std.proofs.Common.{◌≡◌, ℕ, ◌<◌, Bool, true, false, List, length, None, Ok, Result, sym, refl, ap, ◌∙◌, subst, arith}
 use Rattle.refusals.specs.Reading.{Reading}
 use Rattle.std.proofs.lemmas.List.Edits.{length-between}
 use Rattle.std.proofs.lemmas.Bool.Decides.{nat_tests}
 use Rattle.docket.specs.declared.Docket.{Docket}
-use Rattle.docket.specs.Layout.{blank, wrong_place, decoded, encoded, Sized, read_docket}
-use Rattle.docket.proofs.RoundTrip.{Read, read_says, reads, length_encoded, reads_back}
+use Rattle.docket.specs.Layout.{wrong_place, decoded, encoded, Sized, read_docket}
+use Rattle.docket.proofs.RoundTrip.{read_says, reads, length_encoded}
 
 number_small : (d : Docket) (clear : Bool) → None ≡ wrong_place d clear → d.number < 18446744073709551616
 number_small d clear e = grind (arith, nat_tests)

@@ -2,7 +2,7 @@
 use Rattle.std.proofs.Common.{◌≡◌, ℕ, ◌<◌, Bool, true, false, cond, not, ◌&&◌, eqb, ltb, ◌⊎◌, List, Some, None, Ok, Err, Option, Result, sym, refl, ap, ◌∙◌, subst, inl, inr, ⊎_elim, arith}
 use Rattle.std.specs.Str.{bytes_eq}
 use Rattle.std.proofs.lemmas.Bool.Decides.{nat_tests}
-use Rattle.std.proofs.lemmas.Bool.{ltb-true, eqb-true, and_parts, and_cases}
+use Rattle.std.proofs.lemmas.Bool.{ltb-true, eqb-true}
 use Rattle.refusals.specs.Reading.{Reading, found}
 use Rattle.refusals.specs.declared.Layer.TheVariants as layer
 use Rattle.refusals.proofs.Steps.{ok_then, ok_unless, ok_within}
@@ -10,11 +10,11 @@ use Rattle.docket.specs.declared.Docket.{Docket}
 use Rattle.docket.specs.Layout.{encoded, read_docket}
 use Rattle.marks.specs.Marks.{well_formed, mark_after}
 use Rattle.marks.specs.Outcomes.{lands, next_outcome}
-use Rattle.settling.proofs.OrderRuns.{none≢some, some_same}
+use Rattle.settling.proofs.OrderRuns.{some_same}
 use Rattle.settling.specs.Window.{account_of}
 use Rattle.settlement.specs.Box.{BoxState}
 use Rattle.settlement.specs.Examine.{judged_docket, examined, uncovered}
-use Rattle.pool.specs.Ready.{StoreState, written, Finding, refuses, marked, by_cover, by_same, by_mark, by_store, by_examined, finding, store_after}
+use Rattle.pool.specs.Ready.{StoreState, written, Finding, refuses, marked, by_cover, by_mark, by_store, by_examined, finding, store_after}
 use Rattle.pool.proofs.Again.{read_again, ok_same}
 
 -- an account's mark, if it has one, has a lower number than the docket

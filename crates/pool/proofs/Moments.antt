@@ -1,16 +1,13 @@
 -- What holds at every moment of a box's history. Assumes nothing.
-use Rattle.std.proofs.Common.{◌≡◌, ℕ, ◌+◌, ◌<◌, Bool, true, false, cond, not, eqb, ◌⊎◌, List, [], ◌∷◌, ◌++◌, map, replicate, Some, None, Ok, Err, Option, Result, sym, refl, ap, ◌∙◌, subst, inl, inr, ⊎_elim, arith}
-use Rattle.std.proofs.lemmas.Bool.{eqb-true}
+use Rattle.std.proofs.Common.{◌≡◌, ℕ, ◌<◌, Bool, true, false, cond, not, eqb, ◌⊎◌, List, [], ◌∷◌, ◌++◌, map, Some, None, Ok, Err, Option, Result, sym, refl, ap, ◌∙◌, subst, inl, inr, ⊎_elim, arith}
 use Rattle.refusals.specs.Reading.{Reading, found}
 use Rattle.refusals.specs.declared.Layer.TheVariants as layer
 use Rattle.docket.specs.declared.Docket.{Docket}
 use Rattle.docket.specs.Layout.{encoded, read_docket}
 use Rattle.seals.specs.Texts.{countersign_text}
-use Rattle.settling.specs.Window.{fresh}
-use Rattle.settling.specs.Settle.{Ledger}
 use Rattle.settling.specs.Order.{In, Unique, took}
 use Rattle.settling.proofs.OrderRuns.{Run, run_push, some_same}
-use Rattle.settlement.specs.Box.{BoxState, started_box, restart_box, with_ledger, taken_docket, take_box}
+use Rattle.settlement.specs.Box.{BoxState, started_box, restart_box, taken_docket, take_box}
 use Rattle.settlement.proofs.Order.{ledger_of, Level, took_one, box_same, level_one}
 use Rattle.pool.specs.Ready.{StoreState, SlipState, Finding, refuses, marked, not_covered, to_write, finding, box_after, store_after, text_of, released_text}
 use Rattle.pool.specs.History.{Call, countersign, release, withhold, join, take, restart, Moment, adding, after_call, after_calls}

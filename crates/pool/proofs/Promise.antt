@@ -1,5 +1,5 @@
 -- The pool's promise. Assumes nothing but the law of the book.
-use Rattle.std.proofs.Common.{◌≡◌, ℕ, ◌+◌, ◌*◌, ◌<◌, ◌≤◌, Bool, cond, not, eqb, ltb, leb, ◌⊎◌, List, [], ◌∷◌, ◌++◌, map, length, drop, Some, None, Ok, Option, sym, refl, ap, ◌∙◌, subst, inl, inr, ⊎_elim, arith}
+use Rattle.std.proofs.Common.{◌≡◌, ℕ, ◌+◌, ◌<◌, ◌≤◌, Bool, cond, not, eqb, ltb, leb, List, [], ◌∷◌, map, length, drop, Some, None, Ok, Option, sym, refl, ap, ◌∙◌, subst, inl, inr, arith}
 use Rattle.std.proofs.lemmas.Bool.{ltb-false}
 use Rattle.refusals.specs.Reading.{found}
 use Rattle.refusals.specs.declared.Layer.TheVariants as layer
@@ -19,16 +19,16 @@ use Rattle.settling.specs.Settle.{Ledger}
 use Rattle.settling.specs.Order.{In, Within, took, took_all, SettlingIsOrderFree}
 use Rattle.settling.proofs.OrderRuns.{in_turn_lem}
 use Rattle.settling.proofs.OrderFree.{order_free}
-use Rattle.settlement.specs.Accept.{first_bad, unless_bad, judged_contents, accepted}
-use Rattle.settlement.specs.Box.{BoxState, started_box}
+use Rattle.settlement.specs.Accept.{first_bad, unless_bad, accepted}
+use Rattle.settlement.specs.Box.{started_box}
 use Rattle.settlement.proofs.Order.{ledger_of}
 use Rattle.pool.specs.Ready.{StoreState}
 use Rattle.pool.specs.History.{Call, History, Moment, at_setup}
-use Rattle.pool.specs.Promise.{Among, Pool, boxes, needed, Faithful, Accepted, moment_after, MomentOf, SealsHold, Alike, SettledAt, Agreement, PoolsAgree}
+use Rattle.pool.specs.Promise.{Among, Pool, boxes, needed, Faithful, Accepted, moment_after, MomentOf, SealsHold, Agreement, PoolsAgree}
 use Rattle.pool.proofs.Again.{read_again, same_layout}
 use Rattle.pool.proofs.Marks.{not_false_eq, OwnAndRead}
 use Rattle.pool.proofs.Moments.{StoreHolds, Holds, holds_calls}
-use Rattle.pool.proofs.Quorum.{Rise, Shared, quorums_share}
+use Rattle.pool.proofs.Quorum.{Rise, quorums_share}
 
 -- what an accepted certificate is
 record Certified (pool count quorum : ℕ) (bs : List ℕ) (d : Docket) : Type 0 where

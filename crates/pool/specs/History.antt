@@ -1,5 +1,5 @@
 -- A history: the calls that were made on a box and the store beside it, and what has become of both.
-use Rattle.std.specs.Prelude.{◌≡◌, ℕ, Bool, true, false, cond, List, [], ◌∷◌, ◌++◌, Ok, Err, Result}
+use Rattle.std.specs.Prelude.{ℕ, Bool, true, false, cond, List, [], ◌∷◌, ◌++◌, Ok, Err, Result}
 use Rattle.refusals.specs.Reading.{Reading}
 use Rattle.docket.specs.declared.Docket.{Docket}
 use Rattle.marks.specs.Marks.{OwnMarks, ReadsBack}

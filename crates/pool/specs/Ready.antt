@@ -1,7 +1,7 @@
 -- A ready box: a box with a store of marks beside it, and what its calls answer and leave.
-use Rattle.std.specs.Prelude.{ℕ, Bool, true, false, cond, not, List, Some, None, Ok, Err, Option, Result, ◌==◌, nat_lt}
+use Rattle.std.specs.Prelude.{ℕ, Bool, cond, not, List, Some, None, Ok, Err, Option, Result, ◌==◌, nat_lt}
 use Rattle.std.specs.Str.{bytes_eq}
-use Rattle.refusals.specs.Reading.{Reading, found, and_then, if_ok}
+use Rattle.refusals.specs.Reading.{Reading, found, if_ok}
 use Rattle.refusals.specs.declared.Layer.TheVariants as layer
 use Rattle.docket.specs.declared.Docket.{Docket}
 use Rattle.docket.specs.Layout.{encoded}

@@ -1,5 +1,5 @@
 -- What setup and take answer and leave, from their parts. Assumes nothing.
-use Rattle.std.proofs.Common.{◌≡◌, ℕ, ◌+◌, ◌*◌, Bool, true, false, cond, List, replicate, Ok, Err, Result, sym, refl, ap, ◌∙◌}
+use Rattle.std.proofs.Common.{◌≡◌, ℕ, ◌+◌, ◌*◌, Bool, true, false, List, replicate, Ok, Err, sym, ap, ◌∙◌}
 use Rattle.settling.specs.declared.account.Account.{Account}
 use Rattle.settling.specs.Window.{fresh}
 use Rattle.settlement.specs.Accept.{refused}

@@ -1,5 +1,5 @@
 -- A box, and what its calls answer and leave.
-use Rattle.std.specs.Prelude.{ℕ, ◌+◌, ◌*◌, Bool, cond, not, ◌&&◌, ◌||◌, List, [], ◌∷◌, length, replicate, Some, None, Ok, Err, Option, Result, nat_le, nat_lt}
+use Rattle.std.specs.Prelude.{ℕ, ◌+◌, ◌*◌, Bool, cond, ◌&&◌, List, replicate, Some, None, Ok, Err, Option, Result, nat_le, nat_lt}
 use Rattle.refusals.specs.Reading.{Reading, and_then, if_ok}
 use Rattle.docket.specs.declared.Docket.{Docket}
 use Rattle.docket.specs.Layout.{encoded}

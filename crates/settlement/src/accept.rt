@@ -24,7 +24,7 @@ pub(crate) fn accept<C: Checker>(
     bytes: &[u8],
 ) -> Result<Docket, BoxFault>
     requires { boxes ≤ 13 }
-    ensures { judged box_reading result ≡ accepted (good checker.now) pool boxes needed bytes.now }
+    ensures { judged box_reading result ≡ accepted (C.good checker.now) pool boxes needed bytes.now }
 {
     let certificate = Certificate::read(boxes, bytes)?;
     judge(checker, pool, needed, bytes, &certificate)
@@ -39,7 +39,7 @@ fn judge<C: Checker>(
     certificate: &Certificate,
 ) -> Result<Docket, BoxFault>
     requires { Rising 13 0 (contents certificate.now).entries }
-    ensures { judged box_reading result ≡ judged_contents (good checker.now) pool needed bytes.now (contents certificate.now) }
+    ensures { judged box_reading result ≡ judged_contents (C.good checker.now) pool needed bytes.now (contents certificate.now) }
 {
     let docket = certificate.docket();
     if docket.pool != pool {
@@ -60,7 +60,7 @@ fn check_seals<C: Checker>(
     entries: &[Entry],
 ) -> Result<Docket, BoxFault>
     requires { Rising 13 0 entries.now }
-    ensures { judged box_reading result ≡ unless_bad docket (first_bad (good checker.now) bytes.now docket 4 entries.now) }
+    ensures { judged box_reading result ≡ unless_bad docket (first_bad (C.good checker.now) bytes.now docket 4 entries.now) }
 {
     let image = docket.to_bytes();
     for (i, entry) in entries.iter().enumerate() {
@@ -74,7 +74,7 @@ fn check_seals<C: Checker>(
 // Whether an entry's box has sealed the docket's bytes.
 fn is_sealed<C: Checker>(checker: &C, bytes: &[u8], image: &[u8; 80], entry: &Entry) -> bool
     requires { entry.now.signer.number < 13 }
-    ensures { result ≡ good checker.now (box_party entry.now.signer.number) (countersign_text entry.now.signer.number image.now) (seal_of bytes.now entry.now) }
+    ensures { result ≡ C.good checker.now (box_party entry.now.signer.number) (countersign_text entry.now.signer.number image.now) (seal_of bytes.now entry.now) }
 {
     let number = entry.signer.number;
     let text = countersign_text(number, image);

@@ -58,9 +58,9 @@ impl<B: Book, C: Checker> ColdBox<B, C> {
 
 // Applies a docket's lines until one is refused, and answers its index.
 fn apply_lines<B: Book>(book: &mut B, docket: &Docket) -> Option<usize>
-    ensures answer { result ≡ uncovered valid next (current book.old) docket.now }
-    ensures kept { kept book.new ≡ kept book.old }
-    ensures opening { opening book.new ≡ opening book.old }
+    ensures answer { result ≡ uncovered B.valid B.next (B.current book.old) docket.now }
+    ensures kept { B.kept book.new ≡ B.kept book.old }
+    ensures opening { B.opening book.new ≡ B.opening book.old }
 {
     let lines = docket.used_lines();
     for (i, line) in lines.iter().enumerate() {

@@ -8,10 +8,10 @@ returns g c =
     let good = g.C.Checker.good in
     let offer = c.args.offer.now in
     let checker = c.args.checker in
-    let b = c.in-ok-ready.ready in
-    let s = c.in-ok-ready.ensures in
+    let b = c.in_ok-ready.ready in
+    let s = c.in_ok-ready.ensures in
     let start = started c.args.number c.args.row.now in
     record {
-      at = cut_after good offer checker start b s.stand s.checker _ _ c.ask-for.ensures.asked c.come-back.ensures.stand c.come-back.ensures.checker;
-      votes = voted_at good offer checker start b s.stand s.checker c.args.roll.now c.args.number c.args.votes.now.seals _ _ refl c.ask-for.ensures.votes;
+      at = cut_after good offer checker start b s.stand s.checker _ _ c.ask_for.ensures.asked c.come_back.ensures.stand c.come_back.ensures.checker;
+      votes = voted_at good offer checker start b s.stand s.checker c.args.roll.now c.args.number c.args.votes.now.seals _ _ refl c.ask_for.ensures.votes;
     }

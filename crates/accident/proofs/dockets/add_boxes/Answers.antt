@@ -7,7 +7,7 @@ use Rattle.accident.proofs.dockets.add_boxes.Goals as goal
 pub loop-number-preserved : goal.loop-number-preserved
 loop-number-preserved c =
     boxes_more _ _ _ _ c.loop-number.number c.args.docket.now c.loop-number.invariant
-    (pushed c.of-box.result refl c.in-ok-extend-from-slice.was c.extend-from-slice.ensures.items) c.of-box.ensures
+    (pushed c.of_box.result refl c.in_ok-extend_from_slice.was c.extend_from_slice.ensures.items) c.of_box.ensures
 
 pub returns : goal.returns
 returns c =

@@ -3,15 +3,15 @@ use Rattle.std.proofs.lemmas.Result.{err_from_is_err_and}
 use Rattle.settlement.proofs.Seals.{accept_refused, accept_read, read_rising}
 use Rattle.settlement.proofs.accept.accept.Goals as goal
 
-pub returns-in-err-certificate : goal.returns-in-err-certificate
-returns-in-err-certificate g c =
-    let p = err_from_is_err_and c.from-residual.result c.from-residual.ensures.1 in
-    rw (p.1, p.2) (accept_refused (g.C.Checker.good c.args.checker.now) c.args.pool c.args.boxes c.args.needed c.args.bytes.now _ c.in-err-certificate.ensures.answer)
+pub returns-in_err-certificate : goal.returns-in_err-certificate
+returns-in_err-certificate g c =
+    let p = err_from_is_err_and c.from_residual.result c.from_residual.ensures.1 in
+    rw (p.1, p.2) (accept_refused (g.C.Checker.good c.args.checker.now) c.args.pool c.args.boxes c.args.needed c.args.bytes.now _ c.in_err-certificate.ensures.answer)
 
 pub judge-requires : goal.judge-requires
-judge-requires g c = read_rising c.args.boxes c.args.bytes.now _ c.requires c.in-ok-certificate.ensures.answer
+judge-requires g c = read_rising c.args.boxes c.args.bytes.now _ c.requires c.in_ok-certificate.ensures.answer
 
 pub returns : goal.returns
 returns g c =
     c.judge.ensures
-    ∙ accept_read (g.C.Checker.good c.args.checker.now) c.args.pool c.args.boxes c.args.needed c.args.bytes.now _ c.in-ok-certificate.ensures.answer
+    ∙ accept_read (g.C.Checker.good c.args.checker.now) c.args.pool c.args.boxes c.args.needed c.args.bytes.now _ c.in_ok-certificate.ensures.answer

@@ -14,14 +14,14 @@ loop-size-preserved g c =
     let b = box_of g.B.Book.opening g.B.Book.kept g.B.Book.current c.loop-size.cold in
     let certificate = between 2 (2 + c.in-Some.size) c.loop-size.rest.now in
     let checker = c.loop-size.invariant.1 in (
-      answers_more valid next (good c.args.cold.now.checker) b _ c.loop-size.rest.now c.in-Some.size _ _ c.hand-in-answer.result _
+      answers_more valid next (good c.args.cold.now.checker) b _ c.loop-size.rest.now c.in-Some.size _ _ c.hand_in-answer.result _
           c.loop-size.invariant.0 c.in-Some.ensures.answer
-          (c.hand-in-answer.ensures.answer ∙ ap (λ x. told (take_answer valid next (good x) b certificate)) checker)
-          (c.hand-in-answer.ensures.left ∙ ap (λ x. take_box valid next (good x) b certificate) checker)
-          (pushed (c.hand-in-answer.result ∷ []) refl c.in-ok-push.was c.push.ensures.items),
-      c.hand-in-answer.ensures.checker ∙ checker,
+          (c.hand_in-answer.ensures.answer ∙ ap (λ x. told (take_answer valid next (good x) b certificate)) checker)
+          (c.hand_in-answer.ensures.left ∙ ap (λ x. take_box valid next (good x) b certificate) checker)
+          (pushed (c.hand_in-answer.result ∷ []) refl c.in_ok-push.was c.push.ensures.items),
+      c.hand_in-answer.ensures.checker ∙ checker,
     )
 
 pub returns : goal.returns
 returns g c =
-    answers_all g.B.Book.valid g.B.Book.next (g.C.Checker.good c.args.cold.now.checker) _ c.loop-size.rest.now _ _ c.loop-size.invariant.0 c.in-default.ensures.answer
+    answers_all g.B.Book.valid g.B.Book.next (g.C.Checker.good c.args.cold.now.checker) _ c.loop-size.rest.now _ _ c.loop-size.invariant.0 c.in_default.ensures.answer

@@ -10,9 +10,9 @@ pub returns-then-maker-own : goal.returns-then-maker-own
 unfolding released_text
 returns-then-maker-own g c = search rules
 
-pub returns-in-default : goal.returns-in-default
+pub returns-in_default : goal.returns-in_default
 unfolding released_text
-returns-in-default g c = search rules
+returns-in_default g c = search rules
 
 pub returns-then-mark-number : goal.returns-then-mark-number
 unfolding released_text
