@@ -1,4 +1,4 @@
-use Rattle.std.proofs.Common.{sym, ap, ◌∙◌}
+use Rattle.std.proofs.Common.{ap, ◌∙◌}
 use Rattle.std.proofs.lemmas.Bool.{both_ways}
 use Rattle.seals.specs.Roll.{well_laid}
 use Rattle.workbench.proofs.Rolls.{bench_laid, opened, bench_same}
