@@ -6,7 +6,7 @@ use marks::MarkStore;
 
 // An account's mark.
 pub(crate) fn mark_of<S: MarkStore>(store: &S, account: u8) -> Option<Docket>
-    ensures { result ≡ mark store.now account }
+    ensures { result ≡ S.mark store.now account }
 {
     let mut bytes = [0; 80];
     if !store.read(account, &mut bytes) {

@@ -1,8 +1,8 @@
-use Rattle.std.proofs.Common.{Ok, Err, sym, refl, ap, ◌∙◌}
+use Rattle.std.proofs.Common.{Ok, Err, refl, ap, ◌∙◌}
 use Rattle.std.proofs.lemmas.Result.{err_from_is_err_and}
 use Rattle.settlement.specs.Faults.{box_reading}
 use Rattle.settlement.specs.Box.{BoxState, box_of}
-use Rattle.pool.specs.Ready.{SlipState, slip_after, store_after, box_after}
+use Rattle.pool.specs.Ready.{slip_after, store_after, box_after}
 use Rattle.ready.specs.Seen.{store_of, slip_seen}
 use Rattle.ready.proofs.Countersigning.{found_refused, found_docket, same_number}
 use Rattle.ready.proofs.state.ReadyBox.countersign.Goals as goal
