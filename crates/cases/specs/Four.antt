@@ -4,14 +4,13 @@ use Rattle.std.proofs.Common.{arith}
 use Rattle.std.specs.Str.{bytes_eq}
 use Rattle.docket.specs.declared.Docket.{Docket}
 use Rattle.docket.specs.Layout.{encoded}
-use Rattle.certificate.specs.declared.table.Signer.{Signer}
 use Rattle.certificate.specs.Layout.{head_of}
 use Rattle.book.specs.Pallets.{pallet_valid, pallet_next}
 use Rattle.seals.specs.Texts.{countersign_text}
 use Rattle.settling.proofs.OrderRuns.{none≢some}
 use Rattle.workbench.specs.Bench.{opening_balances, docket_of}
 use Rattle.pool.specs.Ready.{StoreState, SlipState}
-use Rattle.pool.specs.History.{Call, countersign, release, withhold, join, take as takes, restart, History, Moment}
+use Rattle.pool.specs.History.{Call, countersign, release, join, take as takes, restart, History, Moment}
 use Rattle.pool.specs.Promise.{Pool, Accepted, SettledAt, moment_after, SealsHold, Agreement}
 
 -- P moves a pallet from account 0 to 1, and Q one from 1 to 0
