@@ -4,7 +4,7 @@ use Rattle.std.proofs.lemmas.Result.{IfOk-weaker}
 use Rattle.std.proofs.lemmas.List.{append-nil}
 use Rattle.refusals.specs.Reading.{Reading, if_ok}
 use Rattle.docket.specs.declared.Docket.{Docket}
-use Rattle.certificate.specs.Layout.{head_of, write_answer, write_buffer}
+use Rattle.certificate.specs.Layout.{write_answer, write_buffer}
 use Rattle.certificate.specs.declared.table.Signer.{Signer}
 use Rattle.book.specs.declared.pallets.PalletBook.{PalletBook}
 use Rattle.marks.specs.declared.table.TableStore.{TableStore}

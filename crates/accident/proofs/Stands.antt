@@ -1,7 +1,6 @@
 -- How boxes of the story are set up. Assumes nothing.
-use Rattle.std.proofs.Common.{◌≡◌, ℕ, ◌≤◌, Bool, true, false, cond, ◌&&◌, ltb, leb, List, [], ◌∷◌, map, length, None, Ok, Err, Option, Result, sym, refl, ap, ◌∙◌, arith}
+use Rattle.std.proofs.Common.{◌≡◌, ℕ, Bool, true, false, cond, ltb, List, [], ◌∷◌, map, None, Ok, Err, Option, Result, refl, ap, ◌∙◌, arith}
 use mathlib.Core.Path.{fun_ext}
-use Rattle.std.proofs.lemmas.Bool.{le-leb}
 use Rattle.docket.specs.declared.Docket.{Docket}
 use Rattle.refusals.specs.Reading.{Reading, and_then, if_ok}
 use Rattle.settlement.specs.Box.{BoxState, started_box, set_up}

@@ -101,8 +101,8 @@ pub fn ask_for<C: Checker>(
     roll: &[u8],
     votes: &mut Votes,
 ) -> anyhow::Result<()>
-    ensures asked { WasAsked good offer.now ready.old ready.new }
-    ensures votes { votes.new.seals ≡ voted_by good roll.now number ready.old offer.now votes.old.seals }
+    ensures asked { WasAsked C.good offer.now ready.old ready.new }
+    ensures votes { votes.new.seals ≡ voted_by C.good roll.now number ready.old offer.now votes.old.seals }
 {
     match ready.countersign(&offer.docket.to_bytes(), &[0, offer.seal]) {
         Ok(slip) => give_out(rt, number, ready, offer.name, slip, roll, votes),

@@ -81,9 +81,9 @@ fn cut_with_slip<C: Checker + Drop>(
     roll: &[u8],
     votes: &mut Votes,
 ) -> anyhow::Result<ReadyBox<PalletBook, C, TableStore>>
-    ensures stand { IfOk result (λ b. stand_of b ≡ cut_in_hand (good ready.cold.checker) (stand_of ready) offer.now) }
+    ensures stand { IfOk result (λ b. stand_of b ≡ cut_in_hand (C.good ready.cold.checker) (stand_of ready) offer.now) }
     ensures checker { IfOk result (λ b. b.cold.checker ≡ ready.cold.checker) }
-    ensures votes { votes.new.seals ≡ voted_late (good ready.cold.checker) roll.now number (stand_of ready) offer.now votes.old.seals }
+    ensures votes { votes.new.seals ≡ voted_late (C.good ready.cold.checker) roll.now number (stand_of ready) offer.now votes.old.seals }
 {
     match ready.countersign(&offer.docket.to_bytes(), &[0, offer.seal]) {
         Ok(slip) => release_late(rt, number, ready, offer.name, slip, roll, votes),
@@ -104,8 +104,8 @@ fn cut_at<C: Checker + Drop>(
     roll: &[u8],
     votes: &mut Votes,
 ) -> anyhow::Result<ReadyBox<PalletBook, C, TableStore>>
-    ensures at { IfOk result (IsAt (restarted (asked (good checker) (started number row.now) offer.now)) checker) }
-    ensures votes { OnOk result (votes.new.seals ≡ voted (good checker) roll.now number (started number row.now) offer.now votes.old.seals) }
+    ensures at { IfOk result (IsAt (restarted (asked (C.good checker) (started number row.now) offer.now)) checker) }
+    ensures votes { OnOk result (votes.new.seals ≡ voted (C.good checker) roll.now number (started number row.now) offer.now votes.old.seals) }
 {
     let mut ready = set_up(number, checker, row)?;
     ask_for(rt, number, &mut ready, offer, roll, votes)?;
@@ -121,11 +121,11 @@ fn cut<C: Checker + Copy + Drop>(
     offer: &Offer,
     votes: &mut Votes,
 ) -> anyhow::Result<FourBoxes<C>>
-    ensures first { IfOk result (λ b. IsAt (restarted (asked (good checker) (started 0 (FailsOld ∷ [])) offer.now)) checker b.first) }
-    ensures second { IfOk result (λ b. IsAt (restarted (asked (good checker) (started 1 (FailsNew ∷ [])) offer.now)) checker b.second) }
-    ensures third { IfOk result (λ b. IsAt (cut_in_hand (good checker) (started 2 []) offer.now) checker b.third) }
-    ensures fourth { IfOk result (λ b. IsAt (restarted (asked (good checker) (started 3 []) offer.now)) checker b.fourth) }
-    ensures votes { OnOk result (votes.new.seals ≡ voted_at_cut (good checker) roll.now offer.now votes.old.seals) }
+    ensures first { IfOk result (λ b. IsAt (restarted (asked (C.good checker) (started 0 (FailsOld ∷ [])) offer.now)) checker b.first) }
+    ensures second { IfOk result (λ b. IsAt (restarted (asked (C.good checker) (started 1 (FailsNew ∷ [])) offer.now)) checker b.second) }
+    ensures third { IfOk result (λ b. IsAt (cut_in_hand (C.good checker) (started 2 []) offer.now) checker b.third) }
+    ensures fourth { IfOk result (λ b. IsAt (restarted (asked (C.good checker) (started 3 []) offer.now)) checker b.fourth) }
+    ensures votes { OnOk result (votes.new.seals ≡ voted_at_cut (C.good checker) roll.now offer.now votes.old.seals) }
 {
     let first = cut_at(rt, 0, checker, &[Outcome::FailsOld], offer, roll, votes)?;
     let second = cut_at(rt, 1, checker, &[Outcome::FailsNew], offer, roll, votes)?;
@@ -147,11 +147,11 @@ fn hand_out<C: Checker>(
     roll: &[u8],
     votes: &mut Votes,
 ) -> anyhow::Result<()>
-    ensures first { OnOk result (WasAsked good offer.now boxes.old.first boxes.new.first) }
-    ensures second { OnOk result (WasAsked good offer.now boxes.old.second boxes.new.second) }
-    ensures third { OnOk result (WasAsked good offer.now boxes.old.third boxes.new.third) }
-    ensures fourth { OnOk result (WasAsked good offer.now boxes.old.fourth boxes.new.fourth) }
-    ensures votes { OnOk result (votes.new.seals ≡ voted_by good roll.now 3 boxes.old.fourth offer.now (voted_by good roll.now 2 boxes.old.third offer.now (voted_by good roll.now 1 boxes.old.second offer.now (voted_by good roll.now 0 boxes.old.first offer.now votes.old.seals)))) }
+    ensures first { OnOk result (WasAsked C.good offer.now boxes.old.first boxes.new.first) }
+    ensures second { OnOk result (WasAsked C.good offer.now boxes.old.second boxes.new.second) }
+    ensures third { OnOk result (WasAsked C.good offer.now boxes.old.third boxes.new.third) }
+    ensures fourth { OnOk result (WasAsked C.good offer.now boxes.old.fourth boxes.new.fourth) }
+    ensures votes { OnOk result (votes.new.seals ≡ voted_by C.good roll.now 3 boxes.old.fourth offer.now (voted_by C.good roll.now 2 boxes.old.third offer.now (voted_by C.good roll.now 1 boxes.old.second offer.now (voted_by C.good roll.now 0 boxes.old.first offer.now votes.old.seals)))) }
 {
     ask_for(rt, 0, &mut boxes.first, offer, roll, votes)?;
     ask_for(rt, 1, &mut boxes.second, offer, roll, votes)?;
@@ -167,7 +167,7 @@ fn hand_in<C: Checker>(
     ready: &mut ReadyBox<PalletBook, C, TableStore>,
     certificate: &[u8],
 ) -> anyhow::Result<Report>
-    ensures took { HasTaken good certificate.now ready.old ready.new }
+    ensures took { HasTaken C.good certificate.now ready.old ready.new }
     ensures report { IfOk result (λ p. p ≡ report_of (stand_of ready.new)) }
 {
     match ready.take(certificate) {
@@ -240,10 +240,10 @@ fn take_all<C: Checker>(
     boxes: &mut FourBoxes<C>,
     certificate: &[u8],
 ) -> anyhow::Result<Option<Report>>
-    ensures first { OnOk result (HasTaken good certificate.now boxes.old.first boxes.new.first) }
-    ensures second { OnOk result (HasTaken good certificate.now boxes.old.second boxes.new.second) }
-    ensures third { OnOk result (HasTaken good certificate.now boxes.old.third boxes.new.third) }
-    ensures fourth { OnOk result (HasTaken good certificate.now boxes.old.fourth boxes.new.fourth) }
+    ensures first { OnOk result (HasTaken C.good certificate.now boxes.old.first boxes.new.first) }
+    ensures second { OnOk result (HasTaken C.good certificate.now boxes.old.second boxes.new.second) }
+    ensures third { OnOk result (HasTaken C.good certificate.now boxes.old.third boxes.new.third) }
+    ensures fourth { OnOk result (HasTaken C.good certificate.now boxes.old.fourth boxes.new.fourth) }
     ensures agreed { IfOk result (Agreed (report_of (stand_of boxes.new.first)) (report_of (stand_of boxes.new.second)) (report_of (stand_of boxes.new.third)) (report_of (stand_of boxes.new.fourth))) }
 {
     let first = hand_in(rt, 0, &mut boxes.first, certificate)?;
@@ -260,10 +260,10 @@ fn settle<C: Checker>(
     offer: &Offer,
     votes: &Votes,
 ) -> anyhow::Result<Option<Report>>
-    ensures first { OnOk result (HasTaken good (certificate_of offer.now votes.now.seals) boxes.old.first boxes.new.first) }
-    ensures second { OnOk result (HasTaken good (certificate_of offer.now votes.now.seals) boxes.old.second boxes.new.second) }
-    ensures third { OnOk result (HasTaken good (certificate_of offer.now votes.now.seals) boxes.old.third boxes.new.third) }
-    ensures fourth { OnOk result (HasTaken good (certificate_of offer.now votes.now.seals) boxes.old.fourth boxes.new.fourth) }
+    ensures first { OnOk result (HasTaken C.good (certificate_of offer.now votes.now.seals) boxes.old.first boxes.new.first) }
+    ensures second { OnOk result (HasTaken C.good (certificate_of offer.now votes.now.seals) boxes.old.second boxes.new.second) }
+    ensures third { OnOk result (HasTaken C.good (certificate_of offer.now votes.now.seals) boxes.old.third boxes.new.third) }
+    ensures fourth { OnOk result (HasTaken C.good (certificate_of offer.now votes.now.seals) boxes.old.fourth boxes.new.fourth) }
     ensures agreed { IfOk result (Agreed (report_of (stand_of boxes.new.first)) (report_of (stand_of boxes.new.second)) (report_of (stand_of boxes.new.third)) (report_of (stand_of boxes.new.fourth))) }
 {
     let mut bytes = [0u8; 256];

@@ -1,5 +1,4 @@
 use Rattle.std.proofs.Common.{rules}
-use Rattle.accident.specs.Story.{stand_of}
 use Rattle.accident.proofs.Stands.{gathered_same}
 use Rattle.accident.proofs.release_late.Goals as goal
 

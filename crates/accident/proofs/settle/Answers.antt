@@ -9,7 +9,7 @@ returns g c =
     let good = g.C.Checker.good in
     let wrote = c.in_ok-length.ensures in
     let read : c.in-Some.certificate.now ≡ certificate_of c.args.offer.now c.args.votes.now.seals =
-    c.in-Some.ensures.finds.0.2 ∙ certificate_read c.args.offer.now c.args.votes.now.seals _ c.in_ok-length.length wrote.answer wrote.buffer in
+    c.in-Some.ensures.lookup.0.2 ∙ certificate_read c.args.offer.now c.args.votes.now.seals _ c.in_ok-length.length wrote.answer wrote.buffer in
     record {
       first = made_taken r good _ _ _ _ read c.take_all.ensures.first;
       second = made_taken r good _ _ _ _ read c.take_all.ensures.second;

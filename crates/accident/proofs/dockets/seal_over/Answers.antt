@@ -1,4 +1,4 @@
-use Rattle.std.proofs.Common.{◌-◌, ◌/◌, length, sym, ap, ◌∙◌, arith, rules}
+use Rattle.std.proofs.Common.{◌-◌, ◌/◌, length, sym, ap, ◌∙◌, arith}
 use Rattle.seals.specs.Texts.{box_party}
 use Rattle.accident.specs.Story.{in_byte}
 use Rattle.accident.proofs.Rolls.{first_here, first_later, first_none, in_byte_lem}
