@@ -1,6 +1,6 @@
 -- A pool of four in which the premise on seals holds, dockets are countersigned, certified and settled, and power is cut.
 use Rattle.std.specs.Prelude.{◌≡◌, ℕ, zero, suc, ◌-◌, Bool, true, false, cond, ◌||◌, List, [], ◌∷◌, ◌++◌, map, None, ◌==◌, nat_le}
-use Rattle.std.proofs.Common.{arith}
+use Rattle.std.proofs.Math.Dec.{lit<, lit≤}
 use Rattle.std.specs.Str.{bytes_eq}
 use Rattle.docket.specs.declared.Docket.{Docket}
 use Rattle.docket.specs.Layout.{encoded}
@@ -80,13 +80,13 @@ history_of number = record {
 abbrev pub four : Pool
 four = record {
   f = 1;
-  least = omega arith;
-  most = omega arith;
+  least = lit≤ tt;
+  most = lit≤ tt;
   number = 7;
-  small = omega arith;
+  small = lit< tt;
   good = good_in_four;
   faulty = 3 ∷ [];
-  few = omega arith;
+  few = lit≤ tt;
   history = history_of;
 }
 
