@@ -1,5 +1,4 @@
 // Why a book cannot be set up.
-ghost use Rattle.std.specs.Prelude.{◌≡◌};
 ghost use Rattle.book.specs.Fault.{book_reading};
 
 use refusals::{Fault, Layer, Refusal};

@@ -5,7 +5,7 @@ ghost use Rattle.book.specs.Pallets.{balance, transfer, pallet_kinds, pallet_val
 ghost use Rattle.std.specs.Result.{result_map_both};
 ghost use Rattle.book.specs.Law.{after};
 ghost use Rattle.book.specs.Transfers.{either_order};
-ghost use Rattle.std.proofs.Common.{rules, arith};
+ghost use Rattle.std.proofs.Common.{rules};
 
 use crate::{Book, BookFault};
 

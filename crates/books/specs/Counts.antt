@@ -1,5 +1,5 @@
 -- A line counts for its issuer alone, so the law of the book below holds of the allowance too.
-use Rattle.std.specs.Prelude.{◌≡◌, ℕ, ◌+◌, Bool, true, ltb, ◌≢◌, List, nat_lt, slice_set, refl}
+use Rattle.std.specs.Prelude.{◌≡◌, ℕ, ◌+◌, Bool, true, ◌≢◌, List, nat_lt, slice_set, refl}
 use Rattle.std.proofs.Common.{ap, sym, ◌∙◌, inl}
 use Rattle.book.specs.Law.{Move, valid_move, next_move, after, WeaklyIndependent}
 use Rattle.books.specs.Allowance.{Spent, spent, made, allowance_next, allowance_valid}
@@ -30,7 +30,7 @@ module _ {S : Type 0} (valid : S → ℕ → List ℕ → Bool) (next : S → �
   stays : (s : Spent S) (m n : Move) → m.account ≢ n.account → over s m ≡ true → valid_move valid (next_move next s.below n) m ≡ true → over (next_move (allowance_next next) s n) m ≡ true
   stays s m n apart c stays_below =
       and_from (nat_lt (made (counted s.counts n.account) m.account) s.maximum) (valid_move valid (next_move next s.below n) m)
-      (ap (λ k. ltb k s.maximum) (other_count s.counts n.account m.account apart) ∙ (parts s m c).0)
+      (ap (λ k. nat_lt k s.maximum) (other_count s.counts n.account m.account apart) ∙ (parts s m c).0)
       stays_below
 
   ends : (s : Spent S) (m n : Move) → m.account ≢ n.account → next_move next (next_move next s.below m) n ≡ next_move next (next_move next s.below n) m → next_move (allowance_next next) (next_move (allowance_next next) s m) n ≡ next_move (allowance_next next) (next_move (allowance_next next) s n) m

@@ -1,5 +1,5 @@
 // The ballot book: what each account has voted on each topic.
-ghost use Rattle.std.specs.Prelude.{◌≡◌, ℕ, ◌≤◌, List, IfSome};
+ghost use Rattle.std.specs.Prelude.{◌≡◌, ◌≤◌, List, IfSome};
 ghost use Rattle.books.specs.Ballots.{Paper, ballot_answer, ballot_kinds, ballot_next, ballot_valid, chose, no_votes, vote_in, votes};
 ghost use Rattle.book.specs.Law.{after};
 ghost use Rattle.books.specs.Votes.{either_order};

@@ -1,7 +1,7 @@
 // The docket: a numbered, sealed transaction of one account, and its 80 bytes.
 #![tactic(auto)]
 
-ghost use Rattle.std.specs.Prelude.{◌≡◌, ℕ, ◌+◌, ◌*◌, ◌<◌, ◌≤◌, ◌++◌, length, take, drop, IfOk, Ok, Decides, OnOk};
+ghost use Rattle.std.specs.Prelude.{◌≡◌, ◌+◌, ◌*◌, ◌<◌, ◌≤◌, ◌++◌, length, take, drop, IfOk, Ok, Decides, OnOk};
 ghost use Rattle.std.specs.List.{between};
 ghost use Rattle.refusals.specs.Reading.{judged};
 ghost use Rattle.docket.specs.Faults.{docket_reading};

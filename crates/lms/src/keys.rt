@@ -1,5 +1,4 @@
 // A checker over the keys of all parties.
-ghost use Rattle.std.specs.Prelude.{◌≡◌};
 ghost use Rattle.lms.specs.Keys.{lent, Opens, good_under};
 
 use super::verify::is_verified;

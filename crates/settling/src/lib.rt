@@ -1,7 +1,7 @@
 // Settling: which dockets wait, and how they move the book.
 #![tactic(auto)]
 
-ghost use Rattle.std.specs.Prelude.{◌≡◌, ℕ, ◌+◌, ◌%◌, ◌<◌, ◌≤◌, true, replicate, is_some, None, nat_le};
+ghost use Rattle.std.specs.Prelude.{◌≡◌, ◌+◌, ◌%◌, ◌<◌, ◌≤◌, true, replicate, is_some, None, nat_le};
 ghost use Rattle.std.specs.Option.{unwrap_or, option_map};
 ghost use Rattle.settling.specs.Window.{fresh, cell, waiting, placed, advanced, account_of, stored, advanced_in};
 ghost use Rattle.settling.specs.Settle.{covered, ready, lowest_ready, settle_one, settle_all};

@@ -1,6 +1,5 @@
 // Hashing a text that comes in parts, with no copy of it.
 ghost use Rattle.std.specs.Prelude.{◌≡◌, ℕ, ◌-◌, ◌/◌, ◌<◌, List, [], ◌∷◌, ◌++◌, length, take, replicate};
-ghost use Rattle.sha256.specs.Compression.{initial};
 ghost use Rattle.sha256.specs.Digest.{u64 as eight_bytes, bytes_of, folded, sha256};
 ghost use Rattle.sha256.specs.Hasher.{after};
 
