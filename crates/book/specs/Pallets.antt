@@ -4,6 +4,7 @@ use Rattle.book.specs.Line.{kind, zeros, last_number}
 use Rattle.book.specs.declared.pallets.Transfer.{Transfer}
 use Rattle.refusals.specs.Reading.{Reading, found}
 use Rattle.refusals.specs.declared.Layer.TheVariants.{Book}
+use Rattle.refusals.specs.declared.Cause.TheVariants as cause
 
 -- kind 1 alone
 abbrev pub pallet_kinds : ℕ → Bool
@@ -56,4 +57,4 @@ pub record States : Type 0 where
 
 -- a sum of at most 2^40 is set up
 abbrev pub set_up : List ℕ → Result States Reading
-set_up balances = cond (nat_le (sum balances) (2 ^ 40)) (Ok (record { opening = balances; kept = balances; current = balances })) (Err (found Book 17 0))
+set_up balances = cond (nat_le (sum balances) (2 ^ 40)) (Ok (record { opening = balances; kept = balances; current = balances })) (Err (found Book cause.Overfull 0))

@@ -1,10 +1,11 @@
 // Why a book cannot be set up.
 ghost use Rattle.book.specs.Fault.{book_reading};
 
-use refusals::{Fault, Layer, Refusal};
-use std::fmt;
+use refusals::{Cause, Fault, Layer, Refusal};
+use thiserror::Error;
 
-#[derive(Clone, Copy, PartialEq, Eq, Debug)]
+#[derive(Clone, Copy, PartialEq, Eq, Debug, Error)]
+#[error("{}", self.refusal())]
 pub enum BookFault {
     // The sum of the balances is above 2^40.
     Overfull,
@@ -17,16 +18,9 @@ impl Fault for BookFault {
         match self {
             BookFault::Overfull => Refusal {
                 layer: Layer::Book,
-                number: 17,
+                cause: Cause::Overfull,
                 place: 0,
             },
         }
-    }
-}
-
-impl fmt::Display for BookFault {
-    fn fmt<W: fmt::Write>(&self, f: &mut fmt::Formatter<W>) -> fmt::Result {
-        let refusal = self.refusal();
-        write!(f, "{refusal}")
     }
 }

@@ -3,6 +3,7 @@ use Rattle.std.specs.Prelude.{◌≡◌, ℕ, ◌+◌, ◌*◌, ◌≤◌, cond,
 use Rattle.std.specs.List.{between}
 use Rattle.refusals.specs.Reading.{Reading, found, and_then, if_ok, within}
 use Rattle.refusals.specs.declared.Layer.TheVariants as layer
+use Rattle.refusals.specs.declared.Cause.TheVariants as cause
 use Rattle.docket.specs.declared.Docket.{Docket}
 use Rattle.docket.specs.Layout.{encoded, read_docket}
 use Rattle.certificate.specs.Contents.{Contents, contents}
@@ -74,7 +75,7 @@ contents_of d ss = record { docket = d; entries = placed (84 + 8 * length ss) ss
 
 -- how many bytes are written, if there is room
 abbrev pub if_room : ℕ → ℕ → Result ℕ Reading
-if_room room total = cond (nat_lt room total) (Err (found layer.Certificate 19 0)) (Ok total)
+if_room room total = cond (nat_lt room total) (Err (found layer.Certificate cause.ShortBuffer 0)) (Ok total)
 
 -- the writer: it refuses as the reader of what it would write, then for a short buffer
 unfoldable pub write_answer : ℕ → Docket → List Signer → List ℕ → List ℕ → Result ℕ Reading

@@ -3,12 +3,13 @@ use Rattle.std.specs.Prelude.{ℕ, zero, suc, ◌+◌, ◌*◌, ◌/◌, ◌%◌
 use Rattle.std.specs.List.{between}
 use Rattle.refusals.specs.Reading.{Reading, found, and_then}
 use Rattle.refusals.specs.declared.Layer.TheVariants as layer
+use Rattle.refusals.specs.declared.Cause.TheVariants as cause
 use Rattle.docket.specs.Layout.{bytes4, from_bytes4}
 use Rattle.certificate.specs.declared.table.Entry.{Entry}
 use Rattle.certificate.specs.declared.table.Signer.{Signer}
 
 abbrev pub malformed : {T : Type 0} → ℕ → Result T Reading
-malformed place = Err (found layer.Certificate 1 place)
+malformed place = Err (found layer.Certificate cause.Malformed place)
 
 -- what the eight bytes of an entry say
 abbrev pub entry_of : List ℕ → Entry

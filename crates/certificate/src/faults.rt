@@ -4,8 +4,8 @@ ghost use Rattle.certificate.specs.declared.faults.CertificateFault.TheVariants.
 ghost use Rattle.certificate.specs.Faults.{certificate_reading};
 
 use docket::DocketFault;
-use refusals::{Fault, Layer, Refusal};
-use std::fmt;
+use refusals::{Cause, Fault, Layer, Refusal};
+use thiserror::Error;
 
 // A docket's fault, and where the docket starts in the certificate.
 #[derive(Clone, Copy, PartialEq, Eq, Debug)]
@@ -14,14 +14,16 @@ pub struct DocketFaultAt {
     pub fault: DocketFault,
 }
 
-// Why bytes or values are no certificate.
-#[derive(Clone, Copy, PartialEq, Eq, Debug)]
+// Why bytes or values are no certificate. A docket's refusal is printed after the certificate's own, on the same line.
+#[derive(Clone, Copy, PartialEq, Eq, Debug, Error)]
+#[error("{}", self.refusal())]
 pub enum CertificateFault {
     // A wrong length, which is the place itself, or a wrong field at its offset.
     Malformed(usize),
     // The buffer to write into is too short.
     ShortBuffer,
     // The docket inside is refused.
+    #[error("{}; {}", self.refusal(), .0.fault)]
     Docket(DocketFaultAt),
 }
 
@@ -37,28 +39,15 @@ impl Fault for CertificateFault {
     ghost reading = { certificate_reading };
 
     fn refusal(&self) -> Refusal {
-        let (number, place) = match self {
-            CertificateFault::Malformed(place) => (1, *place),
-            CertificateFault::ShortBuffer => (19, 0),
-            CertificateFault::Docket(inner) => (inner.fault.refusal().number, inner.place),
+        let (cause, place) = match self {
+            CertificateFault::Malformed(place) => (Cause::Malformed, *place),
+            CertificateFault::ShortBuffer => (Cause::ShortBuffer, 0),
+            CertificateFault::Docket(inner) => (inner.fault.refusal().cause, inner.place),
         };
         Refusal {
             layer: Layer::Certificate,
-            number,
+            cause,
             place,
         }
-    }
-}
-
-// The certificate's own refusal, then the docket's on the same line.
-impl fmt::Display for CertificateFault {
-    fn fmt<W: fmt::Write>(&self, f: &mut fmt::Formatter<W>) -> fmt::Result {
-        let refusal = self.refusal();
-        write!(f, "{refusal}")?;
-        if let CertificateFault::Docket(inner) = self {
-            let fault = inner.fault;
-            write!(f, "; {fault}")?;
-        }
-        Ok(())
     }
 }

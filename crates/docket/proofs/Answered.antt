@@ -5,6 +5,7 @@ use Rattle.std.proofs.lemmas.Bool.{eq-eqb, lt-ltb, le-ltb}
 use Rattle.std.proofs.lemmas.List.{take-append-drop, take_all}
 use Rattle.refusals.specs.Reading.{Reading, found}
 use Rattle.refusals.specs.declared.Layer.TheVariants as layer
+use Rattle.refusals.specs.declared.Cause.TheVariants as cause
 use Rattle.docket.specs.declared.Docket.{Docket}
 use Rattle.docket.specs.Layout.{blank, wrong_place, bytes4, bytes8, decoded, encoded, unless_wrong, read_docket, write_answer, write_buffer}
 
@@ -14,11 +15,11 @@ pub read_by_place :
 unfolding read_docket
 read_by_place bs d clear o h e f g = let t = eq-eqb (length bs) 80 h in cc
 
-pub write_wrong : (d : Docket) (out : List ℕ) (place : ℕ) → Some place ≡ wrong_place d true → Err (found layer.Docket 1 place) ≡ write_answer d out
+pub write_wrong : (d : Docket) (out : List ℕ) (place : ℕ) → Some place ≡ wrong_place d true → Err (found layer.Docket cause.Malformed place) ≡ write_answer d out
 unfolding write_answer
 write_wrong d out place e = cc
 
-pub write_short : (d : Docket) (out : List ℕ) → None ≡ wrong_place d true → length out < 80 → Err (found layer.Docket 19 0) ≡ write_answer d out
+pub write_short : (d : Docket) (out : List ℕ) → None ≡ wrong_place d true → length out < 80 → Err (found layer.Docket cause.ShortBuffer 0) ≡ write_answer d out
 unfolding write_answer
 write_short d out e h = let t = lt-ltb (length out) 80 h in cc
 

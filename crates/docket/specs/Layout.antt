@@ -5,6 +5,7 @@ use Rattle.std.specs.Ordering.{on, eq_of_both}
 use Rattle.std.specs.Cmp.Lexicographic.{pointwise}
 use Rattle.refusals.specs.Reading.{Reading, found, and_then, if_ok}
 use Rattle.refusals.specs.declared.Layer.TheVariants as layer
+use Rattle.refusals.specs.declared.Cause.TheVariants as cause
 use Rattle.docket.specs.declared.Docket.{Docket}
 
 -- the big-endian integer of the first four and of the first eight bytes
@@ -78,20 +79,20 @@ encoded d =
 -- a value, or the fault at the place of what is wrong in it
 abbrev pub unless_wrong : {T : Type 0} → T → Option ℕ → Result T Reading
 unless_wrong x None = Ok x
-unless_wrong x (Some place) = Err (found layer.Docket 1 place)
+unless_wrong x (Some place) = Err (found layer.Docket cause.Malformed place)
 
 -- the reader
 unfoldable pub read_docket : List ℕ → Result Docket Reading
 read_docket bs =
     cond (length bs == 80)
     (unless_wrong (decoded bs) (wrong_place (decoded bs) (blank (between 6 8 bs))))
-    (Err (found layer.Docket 1 (length bs)))
+    (Err (found layer.Docket cause.Malformed (length bs)))
 
 -- the writer: the answer, and what the buffer holds then
 unfoldable pub write_answer : Docket → List ℕ → Result (Unit {0}) Reading
 write_answer d out =
     and_then (unless_wrong (tt {0}) (wrong_place d true))
-    (λ _. cond (nat_lt (length out) 80) (Err (found layer.Docket 19 0)) (Ok (tt {0})))
+    (λ _. cond (nat_lt (length out) 80) (Err (found layer.Docket cause.ShortBuffer 0)) (Ok (tt {0})))
 
 unfoldable pub write_buffer : Docket → List ℕ → List ℕ
 write_buffer d out = if_ok (write_answer d out) (λ _. encoded d ++ drop 80 out) out

@@ -1,11 +1,12 @@
 // The faults of reading and writing a docket.
 ghost use Rattle.docket.specs.Faults.{docket_reading};
 
-use refusals::{Fault, Layer, Refusal};
-use std::fmt;
+use refusals::{Cause, Fault, Layer, Refusal};
+use thiserror::Error;
 
 // Why bytes or a value are no docket.
-#[derive(Clone, Copy, PartialEq, Eq, Debug)]
+#[derive(Clone, Copy, PartialEq, Eq, Debug, Error)]
+#[error("{}", self.refusal())]
 pub enum DocketFault {
     // A wrong length, which is the place itself, or a wrong field or line at its offset.
     Malformed(usize),
@@ -17,21 +18,14 @@ impl Fault for DocketFault {
     ghost reading = { docket_reading };
 
     fn refusal(&self) -> Refusal {
-        let (number, place) = match *self {
-            DocketFault::Malformed(place) => (1, place),
-            DocketFault::ShortBuffer => (19, 0),
+        let (cause, place) = match *self {
+            DocketFault::Malformed(place) => (Cause::Malformed, place),
+            DocketFault::ShortBuffer => (Cause::ShortBuffer, 0),
         };
         Refusal {
             layer: Layer::Docket,
-            number,
+            cause,
             place,
         }
-    }
-}
-
-impl fmt::Display for DocketFault {
-    fn fmt<W: fmt::Write>(&self, f: &mut fmt::Formatter<W>) -> fmt::Result {
-        let refusal = self.refusal();
-        write!(f, "{refusal}")
     }
 }

@@ -5,6 +5,7 @@ use Rattle.std.proofs.lemmas.List.{length-set, get_or-set_same, get_or-set_other
 use Rattle.std.proofs.lemmas.Bool.{and_parts, and_from, eq-eqb, ne_eqb, le-ltb, cases_eq, cases_lt, cond-false, and_right, false≢true}
 use Rattle.refusals.specs.Reading.{Reading, found, and_then, judged}
 use Rattle.refusals.specs.declared.Layer.TheVariants as layer
+use Rattle.refusals.specs.declared.Cause.TheVariants as cause
 use Rattle.docket.specs.declared.Docket.{Docket}
 use Rattle.docket.specs.declared.faults.DocketFault.{DocketFault}
 use Rattle.docket.specs.Faults.{docket_reading}
@@ -72,7 +73,7 @@ pub made_ok : {T E : Type 0} (P : Type 0) (r : Result T E) → is_ok r ≡ true 
 made_ok P (Ok x) h m = m
 made_ok P (Err e) h m = absurd (false≢true h)
 
-ok_written : (o : Option ℕ) (out : List ℕ) → length out ≡ 80 → is_ok (and_then (unless_wrong (tt {0}) o) (λ _. cond (nat_lt (length out) 80) (Err (found layer.Docket 19 0)) (Ok (tt {0})))) ≡ not (is_some o)
+ok_written : (o : Option ℕ) (out : List ℕ) → length out ≡ 80 → is_ok (and_then (unless_wrong (tt {0}) o) (λ _. cond (nat_lt (length out) 80) (Err (found layer.Docket cause.ShortBuffer 0)) (Ok (tt {0})))) ≡ not (is_some o)
 ok_written None out l = let t : ltb (length out) 80 ≡ false = le-ltb _ _ (omega arith) in rw t
 ok_written (Some place) out l = refl
 

@@ -1,10 +1,12 @@
 // What a mark store refuses.
 ghost use Rattle.marks.specs.Fault.{store_reading};
 
-use refusals::{Fault, Layer, Refusal};
-use std::fmt;
+use refusals::{Cause, Fault, Layer, Refusal};
+use thiserror::Error;
 
-#[derive(Clone, Copy, PartialEq, Eq, Debug)]
+// A type of its own: one for stores and checkers alike would take the layer as a parameter, and be no shorter.
+#[derive(Clone, Copy, PartialEq, Eq, Debug, Error)]
+#[error("{}", self.refusal())]
 pub enum StoreFault {
     // A wrong length or layout.
     Layout,
@@ -17,16 +19,9 @@ impl Fault for StoreFault {
         match self {
             StoreFault::Layout => Refusal {
                 layer: Layer::Store,
-                number: 18,
+                cause: Cause::Layout,
                 place: 0,
             },
         }
-    }
-}
-
-impl fmt::Display for StoreFault {
-    fn fmt<W: fmt::Write>(&self, f: &mut fmt::Formatter<W>) -> fmt::Result {
-        let refusal = self.refusal();
-        write!(f, "{refusal}")
     }
 }

@@ -1,24 +1,30 @@
--- How a fault is read: which layer refuses, under which number, at which place, and what it found inside.
+-- How a fault is read: which layer refuses, why, at which place, and what it found inside.
 use Rattle.std.specs.Prelude.{ℕ, Ok, Err, Result}
 use Rattle.refusals.specs.declared.Layer.{Layer}
+use Rattle.refusals.specs.declared.Cause.{Cause}
 use Rattle.refusals.specs.declared.Refusal.{Refusal}
+use Rattle.refusals.specs.Cause.{cause_number}
 
--- `found` is a fault that a layer found itself: the layer, the refusal's number and the place.
+-- `found` is a fault that a layer found itself: the layer, the cause and the place.
 -- `around` is the fault of a layer whose part was refused: the layer, the place where the part starts,
 -- and the part's own fault.
 pub data Reading : Type 0 where
-  found : Layer → ℕ → ℕ → Reading
+  found : Layer → Cause → ℕ → Reading
   around : Layer → ℕ → Reading → Reading
 
--- an outer fault repeats the number of the inner one
+-- an outer fault repeats the cause of the inner one
+abbrev pub cause : Reading → Cause
+cause (found layer why place) = why
+cause (around layer place inner) = cause inner
+
+-- the number under which it is told
 abbrev pub number : Reading → ℕ
-number (found layer n place) = n
-number (around layer place inner) = number inner
+number r = cause_number (cause r)
 
 -- what the outermost layer tells
 abbrev pub outermost : Reading → Refusal
-outermost (found layer n place) = record { layer = layer; number = n; place = place }
-outermost (around layer place inner) = record { layer = layer; number = number inner; place = place }
+outermost (found layer why place) = record { layer = layer; cause = why; place = place }
+outermost (around layer place inner) = record { layer = layer; cause = cause inner; place = place }
 
 -- an answer, with its fault read
 abbrev pub judged : {T E : Type 0} → (E → Reading) → Result T E → Result T Reading

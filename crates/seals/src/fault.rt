@@ -1,10 +1,12 @@
 // What a checker refuses.
 ghost use Rattle.seals.specs.Fault.{checker_reading};
 
-use refusals::{Fault, Layer, Refusal};
-use std::fmt;
+use refusals::{Cause, Fault, Layer, Refusal};
+use thiserror::Error;
 
-#[derive(Clone, Copy, PartialEq, Eq, Debug)]
+// A type of its own: one for checkers and stores alike would take the layer as a parameter, and be no shorter.
+#[derive(Clone, Copy, PartialEq, Eq, Debug, Error)]
+#[error("{}", self.refusal())]
 pub enum CheckerFault {
     // The length or layout of a roll, or of keys, is wrong.
     Layout,
@@ -17,16 +19,9 @@ impl Fault for CheckerFault {
         match self {
             CheckerFault::Layout => Refusal {
                 layer: Layer::Checker,
-                number: 18,
+                cause: Cause::Layout,
                 place: 0,
             },
         }
-    }
-}
-
-impl fmt::Display for CheckerFault {
-    fn fmt<W: fmt::Write>(&self, f: &mut fmt::Formatter<W>) -> fmt::Result {
-        let refusal = self.refusal();
-        write!(f, "{refusal}")
     }
 }
