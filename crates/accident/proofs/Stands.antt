@@ -10,7 +10,7 @@ use Rattle.pool.specs.Ready.{StoreState, SlipState, finding, slip_after, store_a
 use Rattle.book.specs.declared.pallets.PalletBook.{PalletBook}
 use Rattle.ready.specs.declared.state.ReadyBox.{ReadyBox}
 use Rattle.marks.specs.declared.table.TableStore.{TableStore}
-use Rattle.marks.specs.Outcomes.{code}
+use Rattle.marks.specs.Outcomes.{End, ends}
 use Rattle.marks.specs.declared.outcome.Outcome.{Outcome}
 use Rattle.accident.specs.Story.{Stand, opening_balances, started, restarted, slip_over, asked, text_for, gathered, stand_of, voted, cut_in_hand, voted_late, IsAt, WasAsked, voted_by}
 use Rattle.accident.specs.declared.dockets.Offer.{Offer}
@@ -35,8 +35,8 @@ module _ (number : ℕ) (opening : List ℕ) where
 
 -- a box at its start beside an unmarked store
 pub stands_started :
-    (number owner : ℕ) (row : List Outcome) (opening : List ℕ) (b : BoxState (List ℕ)) (mark : ℕ → Option Docket) (coming : List ℕ)
-    → b ≡ started_box 7 number 1 opening → opening ≡ opening_balances → owner ≡ number → ((a : ℕ) → mark a ≡ None) → coming ≡ map code row
+    (number owner : ℕ) (row : List Outcome) (opening : List ℕ) (b : BoxState (List ℕ)) (mark : ℕ → Option Docket) (coming : List End)
+    → b ≡ started_box 7 number 1 opening → opening ≡ opening_balances → owner ≡ number → ((a : ℕ) → mark a ≡ None) → coming ≡ map ends row
     → record { box = b; store = record { owner = owner; mark = mark; row = coming } } ≡ started number row
 stands_started number owner row opening b mark coming s o w m r =
     let e : b ≡ started_box 7 number 1 opening_balances = cc in

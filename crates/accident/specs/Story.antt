@@ -7,7 +7,7 @@ use Rattle.seals.specs.Roll.{is_of, entry_at}
 use Rattle.seals.specs.Texts.{box_party, countersign_text}
 use Rattle.certificate.specs.Layout.{write_answer, write_buffer}
 use Rattle.certificate.specs.declared.table.Signer.{Signer}
-use Rattle.marks.specs.Outcomes.{code}
+use Rattle.marks.specs.Outcomes.{ends}
 use Rattle.marks.specs.Table.{owner_in, mark_in, row_in}
 use Rattle.marks.specs.declared.outcome.Outcome.{Outcome}
 use Rattle.marks.specs.declared.outcome.Outcome.TheVariants.{FailsOld, FailsNew}
@@ -80,7 +80,7 @@ stand_of r = record {
 abbrev pub started : ℕ → List Outcome → Stand
 started number row = record {
   box = started_box 7 number 1 opening_balances;
-  store = record { owner = number; mark = λ _. None; row = map code row };
+  store = record { owner = number; mark = λ _. None; row = map ends row };
 }
 
 -- power is cut, and comes back

@@ -7,6 +7,8 @@ use Rattle.docket.specs.Layout.{encoded}
 use Rattle.certificate.specs.Layout.{head_of}
 use Rattle.book.specs.Pallets.{pallet_valid, pallet_next}
 use Rattle.seals.specs.Texts.{countersign_text}
+use Rattle.marks.specs.Outcomes.{End, ends}
+use Rattle.marks.specs.declared.outcome.Outcome.TheVariants.{FailsOld, FailsNew}
 use Rattle.settling.proofs.OrderRuns.{none≢some}
 use Rattle.workbench.specs.Bench.{opening_balances, docket_of}
 use Rattle.pool.specs.Ready.{StoreState, SlipState}
@@ -43,7 +45,7 @@ abbrev pub cert_q : List ℕ
 cert_q = certified (0 ∷ 2 ∷ 3 ∷ []) docket_q
 
 -- a store without marks, whose writes end so
-abbrev pub unmarked : ℕ → List ℕ → StoreState
+abbrev pub unmarked : ℕ → List End → StoreState
 unmarked owner row = record { owner = owner; mark = λ _. None; row = row }
 
 -- a slip for number 1 of an account
@@ -64,9 +66,9 @@ calls_of (suc (suc n)) =
     join ∷ countersign (encoded docket_p) [] ∷ restart ∷ join ∷ release (slip_of 2 0) ∷ takes cert_p
     ∷ countersign (encoded docket_q) [] ∷ release (slip_of 2 1) ∷ restart ∷ takes cert_q ∷ takes cert_p ∷ []
 
-abbrev pub row_of : ℕ → List ℕ
+abbrev pub row_of : ℕ → List End
 row_of zero = []
-row_of (suc zero) = 2 ∷ 1 ∷ []
+row_of (suc zero) = ends FailsNew ∷ ends FailsOld ∷ []
 row_of (suc (suc n)) = []
 
 abbrev pub history_of : ℕ → History

@@ -9,6 +9,8 @@ use Rattle.certificate.specs.declared.table.Signer.{Signer}
 use Rattle.certificate.specs.Layout.{head_of, contents_of}
 use Rattle.book.specs.Pallets.{pallet_valid, pallet_next}
 use Rattle.seals.specs.Roll.{good_under}
+use Rattle.marks.specs.Outcomes.{End, ends}
+use Rattle.marks.specs.declared.outcome.Outcome.TheVariants.{FailsOld, FailsNew}
 use Rattle.settlement.specs.Box.{BoxState, take_answer, take_box}
 use Rattle.pool.specs.Ready.{SlipState, finding, slip_after}
 use Rattle.pool.specs.History.{Call, countersign, join, restart, Moment, after_calls, at_setup}
@@ -75,10 +77,10 @@ two_pallets = record {
 
 -- what box 0 of the bench's pool answers to the countersign of a docket, after calls, beside an unmarked store whose
 -- writes end so; every yard's seal is good
-abbrev pub moment_of : List ℕ → List Call → Moment (List ℕ)
+abbrev pub moment_of : List End → List Call → Moment (List ℕ)
 moment_of row calls = after_calls pallet_valid pallet_next (λ _ _ _. true) (at_setup (started opening_balances) (record { owner = 0; mark = λ _. None; row = row })) calls
 
-abbrev pub countersigned : List ℕ → List Call → Docket → Result SlipState Reading
+abbrev pub countersigned : List End → List Call → Docket → Result SlipState Reading
 countersigned row calls d =
     let m = moment_of row calls in
     slip_after m.box m.store (finding pallet_valid pallet_next (λ _ _ _. true) m.box m.store (encoded d) [])
@@ -117,9 +119,9 @@ pub record WorkedCases : Type 0 where
   pub p_first : countersigned [] (join ∷ []) (docket_of 0) ≡ Ok slip
   pub p_then_p : countersigned [] once_more (docket_of 0) ≡ Ok slip
   pub p_then_s : countersigned [] once_more docket_s ≡ Err (found layer.Box 6 0)
-  pub new_mark_stands : countersigned (2 ∷ []) (join ∷ []) (docket_of 0) ≡ Err (found layer.Box 14 0)
-  pub new_mark_then_p : countersigned (2 ∷ []) once_more (docket_of 0) ≡ Ok slip
-  pub new_mark_then_s : countersigned (2 ∷ []) once_more docket_s ≡ Err (found layer.Box 6 0)
-  pub old_mark_stays : countersigned (1 ∷ []) (join ∷ []) (docket_of 0) ≡ Err (found layer.Box 14 0)
-  pub old_mark_then_s : countersigned (1 ∷ []) once_more docket_s ≡ Ok slip
+  pub new_mark_stands : countersigned (ends FailsNew ∷ []) (join ∷ []) (docket_of 0) ≡ Err (found layer.Box 14 0)
+  pub new_mark_then_p : countersigned (ends FailsNew ∷ []) once_more (docket_of 0) ≡ Ok slip
+  pub new_mark_then_s : countersigned (ends FailsNew ∷ []) once_more docket_s ≡ Err (found layer.Box 6 0)
+  pub old_mark_stays : countersigned (ends FailsOld ∷ []) (join ∷ []) (docket_of 0) ≡ Err (found layer.Box 14 0)
+  pub old_mark_then_s : countersigned (ends FailsOld ∷ []) once_more docket_s ≡ Ok slip
   pub amount_2 : countersigned [] (join ∷ []) two_pallets ≡ Err (found layer.Box 7 0)

@@ -1,8 +1,8 @@
 -- What tables of marks hold, and keep. Assumes nothing.
 use Rattle.std.proofs.Common.{◌≡◌, ℕ, zero, suc, ◌+◌, ◌≤◌, Bool, true, false, cond, not, ◌&&◌, ltb, List, [], ◌∷◌, length, get_or, replicate, set, refl, sym, ap, ◌∙◌, subst, inl, inr, arith, Some, None, Ok, Err}
 use Rattle.std.specs.Prelude.{is_some, IfSome, is_ok, is_err, Option, Result, OnOk, nat_lt}
-use Rattle.std.proofs.lemmas.List.{length-set, get_or-set_same, get_or-set_other, get_or-replicate, get_or_past, length-replicate}
-use Rattle.std.proofs.lemmas.Bool.{and_parts, and_from, eq-eqb, ne_eqb, le-ltb, cases_eq, cases_lt, cond-false, and_right, false≢true}
+use Rattle.std.proofs.lemmas.List.{length-set, get_or-replicate, get_or_past, length-replicate}
+use Rattle.std.proofs.lemmas.Bool.{and_parts, and_from, eq-eqb, le-ltb, cases_lt, cond-false, and_right, false≢true}
 use Rattle.refusals.specs.Reading.{Reading, found, and_then, judged}
 use Rattle.refusals.specs.declared.Layer.TheVariants as layer
 use Rattle.refusals.specs.declared.Cause.TheVariants as cause
@@ -14,7 +14,7 @@ use Rattle.docket.proofs.RoundTrip.{reads, length_encoded, read_says}
 use Rattle.docket.specs.Layout as docket
 use Rattle.marks.specs.Kept.{formed, some_not_none, account_of_lem, mark_at}
 use Rattle.marks.specs.Marks.{well_formed, mark_after, is_mark, are_marks, Marked}
-use Rattle.marks.specs.Outcomes.{lands, next_outcome}
+use Rattle.marks.specs.Outcomes.{End, lands, next_outcome}
 
 marks_set : (k : ℕ) (ms : List (Option Docket)) (a : ℕ) (d : Docket) → are_marks k ms ≡ true → d.account ≡ k + a → well_formed d ≡ true → are_marks k (set ms a (Some d)) ≡ true
 marks_set k [] a d h e w = refl
@@ -25,8 +25,8 @@ marks_set k (m ∷ ms) (suc a) d h e w =
     let p = and_parts (is_mark k m) (are_marks (k + 1) ms) h in
     and_from _ _ p.0 (marks_set (k + 1) ms a d p.1 (omega arith) w)
 
-pub marked_set : (ms : List (Option Docket)) (d : Docket) → Marked ms → well_formed d ≡ true → Marked (set ms d.account (Some d))
-marked_set ms d own w = (length-set ms d.account (Some d) ∙ own.0, marks_set 0 ms d.account d own.1 (omega arith) w)
+pub marked_set : (ms : List (Option Docket)) (k : ℕ) (d : Docket) → k ≡ d.account → Marked ms → well_formed d ≡ true → Marked (set ms k (Some d))
+marked_set ms k d e own w = (length-set ms k (Some d) ∙ own.0, marks_set 0 ms k d own.1 (omega arith) w)
 
 abbrev none : Option Docket
 none = None
@@ -38,23 +38,9 @@ unmarked n a =
       | inr h ↦ get_or_past (replicate n None) a None (let l = length-replicate n none in omega arith)
     ]
 
--- a mark that lands is its account's, and the others are as they were
-pub landed :
-    (ms : List (Option Docket)) (row : List ℕ) (d : Docket) (a : ℕ) → length ms ≡ 64 → well_formed d ≡ true → lands (next_outcome row) ≡ true
-    → get_or (set ms d.account (Some d)) a None ≡ mark_after (λ b. get_or ms b None) row d a
-landed ms row d a l w o =
-    elim (cases_eq a d.account) [
-      | inl e ↦
-          let t = eq-eqb a d.account e in
-          let s : d.account ≤ 63 = account_of_lem d w in
-          let g = get_or-set_same ms d.account (Some d) None (omega arith) in
-          cc
-      | inr ne ↦ let t = ne_eqb a d.account ne in let g = get_or-set_other ms d.account a (Some d) None ne in cc
-    ]
-
--- one that does not land changes nothing
+-- a write that does not land changes nothing
 pub not_landed :
-    (mark : ℕ → Option Docket) (row : List ℕ) (d : Docket) (a : ℕ) → (well_formed d && lands (next_outcome row)) ≡ false → mark a ≡ mark_after mark row d a
+    (mark : ℕ → Option Docket) (row : List End) (d : Docket) (a : ℕ) → (well_formed d && lands (next_outcome row)) ≡ false → mark a ≡ mark_after mark row d a
 not_landed mark row d a o = sym (cond-false _ (Some d) (mark a) (and_right _ _ o))
 
 -- what the docket's writer answers tells whether the docket is well formed

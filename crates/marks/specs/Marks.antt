@@ -3,7 +3,7 @@ use Rattle.std.specs.Prelude.{◌≡◌, ℕ, ◌+◌, ◌≤◌, Bool, true, co
 use Rattle.std.specs.Option.{unwrap_or, option_map}
 use Rattle.docket.specs.declared.Docket.{Docket}
 use Rattle.docket.specs.Layout.{wrong_place, encoded, read_docket}
-use Rattle.marks.specs.Outcomes.{stands, lands, next_outcome, rest_of_row}
+use Rattle.marks.specs.Outcomes.{End, stands, lands, next_outcome, rest_of_row}
 
 abbrev pub well_formed : Docket → Bool
 well_formed d = not (is_some (wrong_place d true))
@@ -28,13 +28,13 @@ abbrev pub ReadsBack : Option Docket → Type 0
 ReadsBack mark = IfSome mark (λ d. read_docket (encoded d) ≡ Ok d)
 
 -- writing a mark: the answer, the marks then and the row then
-abbrev pub write_answer : List ℕ → Docket → Bool
+abbrev pub write_answer : List End → Docket → Bool
 write_answer row d = well_formed d && stands (next_outcome row)
 
-abbrev pub mark_after : (ℕ → Option Docket) → List ℕ → Docket → ℕ → Option Docket
+abbrev pub mark_after : (ℕ → Option Docket) → List End → Docket → ℕ → Option Docket
 mark_after mark row d account = cond (account == d.account && (well_formed d && lands (next_outcome row))) (Some d) (mark account)
 
-abbrev pub row_after : List ℕ → Docket → List ℕ
+abbrev pub row_after : List End → Docket → List End
 row_after row d = cond (well_formed d) (rest_of_row row) row
 
 -- a table of marks from account `a` on holds, for each, none or a well-formed docket of that account

@@ -1,31 +1,32 @@
 -- How a write that can fail ends.
-use Rattle.std.specs.Prelude.{ℕ, Bool, cond, ◌||◌, List, [], ◌∷◌, ◌==◌}
+use Rattle.std.specs.Prelude.{Bool, true, false, List, [], ◌∷◌}
 use Rattle.marks.specs.declared.outcome.Outcome.{Outcome}
 use Rattle.marks.specs.declared.outcome.Outcome.TheVariants.{Stands, FailsOld, FailsNew}
 
--- an outcome's number
-abbrev pub code : Outcome → ℕ
-code Stands = 0
-code FailsOld = 1
-code FailsNew = 2
+-- how a coming write ends: with an outcome, or barred, where a store can write nothing and so fails in every write
+pub data End : Type 0 where
+  ends : Outcome → End
+  barred : End
 
 -- the write is answered with yes
-abbrev pub stands : ℕ → Bool
-stands outcome = outcome == 0
+abbrev pub stands : Outcome → Bool
+stands Stands = true
+stands FailsOld = false
+stands FailsNew = false
 
 -- what was to be written is there afterwards
-abbrev pub lands : ℕ → Bool
-lands outcome = outcome == 0 || outcome == 2
+abbrev pub lands : Outcome → Bool
+lands Stands = true
+lands FailsOld = false
+lands FailsNew = true
 
--- a store that can write nothing fails in every write, and changes nothing
-abbrev pub lasting : ℕ
-lasting = 3
+-- a row that is used up counts as one that stands, and a barred write changes nothing
+abbrev pub next_outcome : List End → Outcome
+next_outcome [] = Stands
+next_outcome (ends outcome ∷ rest) = outcome
+next_outcome (barred ∷ rest) = FailsOld
 
--- a row that is used up counts as one that stands
-abbrev pub next_outcome : List ℕ → ℕ
-next_outcome [] = 0
-next_outcome (outcome ∷ rest) = outcome
-
-abbrev pub rest_of_row : List ℕ → List ℕ
+abbrev pub rest_of_row : List End → List End
 rest_of_row [] = []
-rest_of_row (outcome ∷ rest) = cond (outcome == lasting) (outcome ∷ rest) rest
+rest_of_row (ends outcome ∷ rest) = rest
+rest_of_row (barred ∷ rest) = barred ∷ rest

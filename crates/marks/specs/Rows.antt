@@ -1,9 +1,15 @@
 -- A row of outcomes as it is stored.
-use Rattle.std.specs.Prelude.{ℕ, List, map}
-use Rattle.std.specs.List.{between}
-use Rattle.marks.specs.Outcomes.{code}
+use Rattle.std.specs.Prelude.{List, [], ◌∷◌, map, Some, None, Option}
+use Rattle.marks.specs.Outcomes.{End, ends}
+use Rattle.marks.specs.declared.outcome.Outcome.{Outcome}
 use Rattle.marks.specs.declared.row.Row.{Row}
 
--- the outcomes still to come
-abbrev pub coming : Row → List ℕ
-coming row = map code (between row.used row.count row.outcomes)
+-- those in the cells before the first empty one
+abbrev pub filled : List (Option Outcome) → List Outcome
+filled [] = []
+filled (None ∷ cells) = []
+filled (Some outcome ∷ cells) = outcome ∷ filled cells
+
+-- how the writes to come end
+abbrev pub coming : Row → List End
+coming row = map ends (filled row.cells)

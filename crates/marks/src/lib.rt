@@ -4,7 +4,7 @@
 ghost use Rattle.std.specs.Prelude.{◌≡◌, ℕ, true, List, IfSome, Option};
 ghost use Rattle.docket.specs.declared.Docket.{Docket};
 ghost use Rattle.marks.specs.Marks.{OwnMarks, ReadsBack, well_formed, read_answer, read_buffer, write_answer, mark_after, row_after};
-ghost use Rattle.marks.specs.Outcomes.{stands, next_outcome, rest_of_row};
+ghost use Rattle.marks.specs.Outcomes.{End};
 ghost use Rattle.marks.specs.Table.{owner_in, mark_in, row_in, Starts};
 ghost use Rattle.marks.specs.Kept.{mark_of};
 
@@ -26,13 +26,14 @@ pub trait MarkStore {
 
     ghost mark: { Self → ℕ → Option Docket };
 
-    ghost row: { Self → List ℕ };
+    ghost row: { Self → List End };
 
     // The box whose marks it keeps.
     fn owner(&self) -> u8
         ensures answer { result ≡ owner_of self.now };
 
     // Puts the bytes of an account's mark into the buffer, or answers no and leaves the buffer as it is.
+    // A yes or no beside a caller's buffer, and no Option: nothing is copied twice, and the caller's bytes may stay.
     fn read(&self, account: u8, out: &mut [u8; 80]) -> bool
         ensures answer { result ≡ read_answer (mark self.now account) }
         ensures buffer { out.new ≡ read_buffer (mark self.now account) out.old }
@@ -56,7 +57,7 @@ pub fn is_well_formed(docket: &Docket) -> bool
     docket.write(&mut bytes).is_ok()
 }
 
-// Puts the bytes of a mark, if there is one, into the buffer. Public, as every store reads so.
+// Puts the bytes of a mark, if there is one, into the buffer, as `read` answers. Public, as every store reads so.
 pub fn give(mark: Option<Docket>, out: &mut [u8; 80]) -> bool
     ensures answer { result ≡ read_answer mark }
     ensures buffer { out.new ≡ read_buffer mark out.old }
@@ -76,9 +77,7 @@ impl TableStore {
     pub fn new(owner: u8, row: &[Outcome]) -> Result<TableStore, StoreFault>
         ensures { Starts owner row.now result }
     {
-        let Some(row) = Row::new(row) else {
-            return Err(StoreFault::Layout);
-        };
+        let row = Row::new(row).ok_or(StoreFault::Layout)?;
         Ok(TableStore {
             owner,
             marks: [None; 64],
@@ -89,23 +88,7 @@ impl TableStore {
     fn get(&self, account: u8) -> Option<Docket>
         ensures { result ≡ mark_in self.now account }
     {
-        let at = account as usize;
-        if at < 64 { self.marks[at] } else { None }
-    }
-
-    // Writes as the next outcome says.
-    fn land(&mut self, docket: &Docket) -> bool
-        requires { well_formed docket.now ≡ true }
-        ensures answer { result ≡ stands (next_outcome (row_in self.old)) }
-        ensures marks { (a : ℕ) → mark_in self.new a ≡ mark_after (mark_in self.old) (row_in self.old) docket.now a }
-        ensures row { row_in self.new ≡ rest_of_row (row_in self.old) }
-        ensures owner { owner_in self.new ≡ owner_in self.old }
-    {
-        let outcome = self.row.take();
-        if outcome.lands() {
-            self.marks[docket.account as usize] = Some(*docket);
-        }
-        outcome.stands()
+        self.marks.get(usize::from(account)).copied().flatten()
     }
 }
 
@@ -127,6 +110,13 @@ impl MarkStore for TableStore {
     }
 
     fn write(&mut self, docket: &Docket) -> bool {
-        is_well_formed(docket) && self.land(docket)
+        if !is_well_formed(docket) {
+            return false;
+        }
+        let outcome = self.row.take();
+        if outcome.lands() {
+            self.marks[usize::from(docket.account)] = Some(*docket);
+        }
+        outcome.stands()
     }
 }

@@ -1,9 +1,11 @@
 // How a write that can fail ends, and rows of such ends for tests and simulations.
 ghost use Rattle.std.specs.Prelude.{◌≡◌, ◌<◌, ◌≤◌, map, length, MatchOption};
-ghost use Rattle.marks.specs.Outcomes.{code, stands, lands, next_outcome, rest_of_row};
+ghost use Rattle.std.specs.List.{slice_get};
+ghost use Rattle.marks.specs.Outcomes.{ends, stands, lands, next_outcome, rest_of_row};
 ghost use Rattle.marks.specs.Rows.{coming};
 
 pub use crate::row::Row;
+use std::array;
 
 #[derive(Clone, Copy, PartialEq, Eq, Debug)]
 pub enum Outcome {
@@ -18,7 +20,7 @@ pub enum Outcome {
 impl Outcome {
     // The write is answered with yes.
     pub fn stands(self) -> bool
-        ensures { result ≡ stands (code self) }
+        ensures { result ≡ stands self }
     {
         match self {
             Outcome::Stands => true,
@@ -28,7 +30,7 @@ impl Outcome {
 
     // What was to be written is there afterwards.
     pub fn lands(self) -> bool
-        ensures { result ≡ lands (code self) }
+        ensures { result ≡ lands self }
     {
         match self {
             Outcome::Stands | Outcome::FailsNew => true,
@@ -40,30 +42,29 @@ impl Outcome {
 impl Row {
     // A row of up to 64 outcomes.
     pub fn new(outcomes: &[Outcome]) -> Option<Row>
-        ensures { MatchOption result (64 < length outcomes.now) (λ row. (length outcomes.now ≤ 64) × (coming row ≡ map code outcomes.now)) }
+        ensures { MatchOption result (64 < length outcomes.now) (λ row. (length outcomes.now ≤ 64) × (coming row ≡ map ends outcomes.now)) }
     {
         if outcomes.len() > 64 {
             return None;
         }
-        let mut cells = [Outcome::Stands; 64];
-        cells[0..outcomes.len()].copy_from_slice(outcomes);
         Some(Row {
-            outcomes: cells,
-            used: 0,
-            count: outcomes.len(),
+            cells: array::from_fn(
+                |i| -> Option<Outcome>
+                    ensures { result ≡ slice_get outcomes.entry.now i }
+                { outcomes.get(i).copied() },
+            ),
         })
     }
 
     // Takes the next outcome off the row.
     pub fn take(&mut self) -> Outcome
-        ensures answer { code result ≡ next_outcome (coming self.old) }
+        ensures answer { result ≡ next_outcome (coming self.old) }
         ensures row { coming self.new ≡ rest_of_row (coming self.old) }
     {
-        if self.used == self.count {
+        let Some(outcome) = self.cells[0].take() else {
             return Outcome::Stands;
-        }
-        let outcome = self.outcomes[self.used];
-        self.used += 1;
+        };
+        self.cells.rotate_left(1);
         outcome
     }
 }

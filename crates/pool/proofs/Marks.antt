@@ -9,7 +9,7 @@ use Rattle.refusals.proofs.Steps.{ok_then, ok_unless, ok_within}
 use Rattle.docket.specs.declared.Docket.{Docket}
 use Rattle.docket.specs.Layout.{encoded, read_docket}
 use Rattle.marks.specs.Marks.{well_formed, mark_after}
-use Rattle.marks.specs.Outcomes.{lands, next_outcome}
+use Rattle.marks.specs.Outcomes.{End, lands, next_outcome}
 use Rattle.settling.proofs.OrderRuns.{some_same}
 use Rattle.settling.specs.Window.{account_of}
 use Rattle.settlement.specs.Box.{BoxState}
@@ -101,7 +101,7 @@ pub record Behind (s : StoreState) (d : Docket) : Type 0 where
   pub is : s.mark d.account ≡ Some mark
   pub passed : (d ≡ mark) ⊎ (d.number < mark.number)
 
-mark_then : (mark : ℕ → Option Docket) (row : List ℕ) (d : Docket) (a : ℕ) → (mark_after mark row d a ≡ mark a) ⊎ ((a ≡ d.account) × (mark_after mark row d a ≡ Some d))
+mark_then : (mark : ℕ → Option Docket) (row : List End) (d : Docket) (a : ℕ) → (mark_after mark row d a ≡ mark a) ⊎ ((a ≡ d.account) × (mark_after mark row d a ≡ Some d))
 mark_then mark row d a = case (eqb a d.account) (well_formed d && lands (next_outcome row)) refl where
   case : (t u : Bool) → eqb a d.account ≡ t → (cond (t && u) (Some d) (mark a) ≡ mark a) ⊎ ((a ≡ d.account) × (cond (t && u) (Some d) (mark a) ≡ Some d))
   case true true e = inr (eqb-true _ _ e, refl)

@@ -7,6 +7,7 @@ use Rattle.docket.specs.declared.Docket.{Docket}
 use Rattle.docket.specs.Layout.{encoded}
 use Rattle.seals.specs.Texts.{countersign_text}
 use Rattle.marks.specs.Marks.{write_answer, mark_after, row_after}
+use Rattle.marks.specs.Outcomes.{End}
 use Rattle.settlement.specs.Accept.{refused}
 use Rattle.settlement.specs.Box.{BoxState}
 use Rattle.settlement.specs.Examine.{examined, uncovered, level_box}
@@ -15,7 +16,7 @@ use Rattle.settlement.specs.Examine.{examined, uncovered, level_box}
 pub record StoreState : Type 0 where
   pub owner : ℕ
   pub mark : ℕ → Option Docket
-  pub row : List ℕ
+  pub row : List End
 
 abbrev pub written : StoreState → Docket → StoreState
 written s d = record {

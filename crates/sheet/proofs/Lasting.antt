@@ -6,7 +6,7 @@ use Rattle.std.specs.Option.{option_or}
 use Rattle.std.proofs.lemmas.Bool.{and_parts, and_from, and_left, and_right, eq-eqb, ne_eqb, cases_eq, cases_Bool, cond-true, cond-false, false≢true}
 use Rattle.docket.specs.declared.Docket.{Docket}
 use Rattle.docket.specs.Layout.{blank, read_docket, encoded}
-use Rattle.marks.specs.Outcomes.{lands, stands, next_outcome, rest_of_row, lasting}
+use Rattle.marks.specs.Outcomes.{lands, stands, next_outcome, rest_of_row, End, barred}
 use Rattle.marks.specs.Marks.{well_formed, write_answer, mark_after, row_after}
 use Rattle.sheet.specs.Sheet.{count_of, end_of, fit, record_at, records, of_account, last_of, stays_by, keep_last, contents, with_room, owner_on, mark_on, row_on, head_clear, all_read, rest_clear, well_laid, SameHead, Wrote, Written, marks_after, lent, OpensSheet, Lasts}
 use Rattle.marks.specs.declared.fault.StoreFault.{StoreFault}
@@ -138,22 +138,22 @@ wrote_malformed bs d w =
       laid = λ l. l;
     }
 
-lasting_row : (bs : List ℕ) → fit bs ≡ false → row_on bs ≡ lasting ∷ []
-lasting_row bs f = cond-false _ _ _ f
+barred_row : (bs : List ℕ) → fit bs ≡ false → row_on bs ≡ barred ∷ []
+barred_row bs f = cond-false _ _ _ f
 
-either : (b : Bool) (row : List ℕ) → row ≡ cond b row row
+either : (b : Bool) (row : List End) → row ≡ cond b row row
 either true row = refl
 either false row = refl
 
 pub wrote_unfit : (bs : List ℕ) (d : Docket) → fit bs ≡ false → Wrote bs d bs
 wrote_unfit bs d f =
-    let e = lasting_row bs f in
+    let e = barred_row bs f in
     record {
       same = λ _. refl;
       size = refl;
       rows = sym (cond-false _ (with_room bs ++ encoded d ∷ []) (contents bs) (and_right _ _ f));
       owner = refl;
-      row = subst (λ row. row ≡ row_after row d) (sym e) (either (well_formed d) (lasting ∷ []));
+      row = subst (λ row. row ≡ row_after row d) (sym e) (either (well_formed d) (barred ∷ []));
       marks = λ a. not_landed (mark_on bs) (row_on bs) d a (and_right _ _ (ap (λ row. lands (next_outcome row)) e));
       laid = λ l. l;
     }
@@ -162,7 +162,7 @@ pub answer_malformed : (bs : List ℕ) (d : Docket) → well_formed d ≡ false 
 answer_malformed bs d w = sym (and_left _ _ w)
 
 pub answer_unfit : (bs : List ℕ) (d : Docket) → fit bs ≡ false → false ≡ write_answer (row_on bs) d
-answer_unfit bs d f = sym (and_right _ _ (ap (λ row. stands (next_outcome row)) (lasting_row bs f)))
+answer_unfit bs d f = sym (and_right _ _ (ap (λ row. stands (next_outcome row)) (barred_row bs f)))
 
 pub answer_stood : (bs : List ℕ) (d : Docket) → well_formed d ≡ true → fit bs ≡ true → true ≡ write_answer (row_on bs) d
 answer_stood bs d w f = sym (and_from _ _ w (ap (λ row. stands (next_outcome row)) (row_of bs f)))

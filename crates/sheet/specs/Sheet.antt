@@ -7,7 +7,7 @@ use Rattle.refusals.specs.Reading.{Reading}
 use Rattle.docket.specs.declared.Docket.{Docket}
 use Rattle.docket.specs.Layout.{blank, read_docket, encoded}
 use Rattle.marks.specs.Marks.{well_formed, write_answer, mark_after, row_after}
-use Rattle.marks.specs.Outcomes.{lasting}
+use Rattle.marks.specs.Outcomes.{End, barred}
 use Rattle.marks.specs.declared.fault.StoreFault.{StoreFault}
 use Rattle.marks.specs.declared.fault.StoreFault.TheVariants.{Layout}
 use Rattle.sheet.specs.declared.Sheet.{Sheet}
@@ -69,8 +69,8 @@ abbrev pub mark_on : List ℕ → ℕ → Option Docket
 mark_on bs a = cond (fit bs) (last_of a (contents bs)) None
 
 -- a sheet's row is empty, so that every write stands
-abbrev pub row_on : List ℕ → List ℕ
-row_on bs = cond (fit bs) [] (lasting ∷ [])
+abbrev pub row_on : List ℕ → List End
+row_on bs = cond (fit bs) [] (barred ∷ [])
 
 -- well laid: the head's other bytes are zero, every record is a docket, and what follows is zero
 abbrev pub head_clear : List ℕ → Bool
