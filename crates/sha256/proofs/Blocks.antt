@@ -1,10 +1,11 @@
 -- Blocks off the front of a text, and words as bytes.
-use Rattle.std.proofs.Common.{◌≡◌, ℕ, suc, ◌+◌, ◌*◌, ◌/◌, ◌<◌, List, [], ◌∷◌, ◌++◌, length, get_or, take, drop, sym, refl, ap, ◌∙◌, arith, length-append}
+use Rattle.std.proofs.Common.{◌≡◌, ℕ, zero, suc, map, ◌/◌, List, [], ◌∷◌, ◌++◌, length, take, drop, refl, ap, ◌∙◌, arith, length-append}
 use Rattle.sha256.specs.Compression.{compressed}
 use Rattle.sha256.specs.Digest.{u32, folded, bytes_of}
-use Rattle.std.proofs.lemmas.List.{take_at, drop_at, append_assoc, take_more}
-use Rattle.std.proofs.lemmas.Slice.{take-put_mid}
-use borrow.Rule.Slice.PartMut.{put_mid}
+use Rattle.std.proofs.lemmas.List.{take_at, drop_at}
+use Rattle.std.proofs.lemmas.List.Concat.{flat_map-cons}
+use Rattle.std.specs.List.{fold, flat_map}
+use Rattle.std.specs.Simd.{first_chunks}
 
 pub folded_suc : (n : ℕ) (s bytes : List ℕ) → folded (suc n) s bytes ≡ folded n (compressed s (take 64 bytes)) (drop 64 bytes)
 unfolding folded
@@ -15,22 +16,16 @@ folded_more s bytes block rest parts h =
     let n : length (block ++ rest) / 64 ≡ suc (length rest / 64) = simp length-append (omega arith) in
     rw (parts, n, folded_suc, take_at, drop_at)
 
+pub folded_fold : (n : ℕ) (s bytes : List ℕ) → fold compressed s (first_chunks 64 n bytes) ≡ folded n s bytes
+unfolding folded
+folded_fold zero s bytes = refl
+folded_fold (suc n) s bytes = folded_fold n (compressed s (take 64 bytes)) (drop 64 bytes)
+
 pub folded_none : (s bytes : List ℕ) → length bytes / 64 ≡ 0 → folded (length bytes / 64) s bytes ≡ s
 unfolding folded
 folded_none s bytes h = rw h
 
-pub bytes_none : [] ≡ bytes_of []
+pub bytes_flat : (ws : List ℕ) → flat_map (λ b. b) (map u32 ws) ≡ bytes_of ws
 unfolding bytes_of
-bytes_none = refl
-
-pub bytes_push : (ws : List ℕ) (w : ℕ) → bytes_of (ws ++ w ∷ []) ≡ bytes_of ws ++ u32 w
-unfolding bytes_of
-bytes_push [] w = refl
-bytes_push (v ∷ ws) w = ap (λ bytes. u32 v ++ bytes) (bytes_push ws w) ∙ sym (append_assoc (u32 v) (bytes_of ws) (u32 w))
-
-pub bytes_more : (words bytes ys : List ℕ) (i k : ℕ) → length bytes ≡ 32 → length words ≡ 8 → i < 8 → take (4 * i) bytes ≡ bytes_of (take i words) → ys ≡ u32 (get_or words i 0) → take (4 * (i + 1)) (put_mid (4 * i) k bytes ys) ≡ bytes_of (take (i + 1) words)
-bytes_more words bytes ys i k h l lt e f =
-    let put = take-put_mid (4 * i) k bytes ys (4 * (i + 1)) (rw f (omega arith)) (omega arith) in
-    let in_words : i < length words = omega arith in
-    let more = ap bytes_of (take_more words i 0 in_words) ∙ bytes_push (take i words) (get_or words i 0) in
-    put ∙ cc
+bytes_flat [] = refl
+bytes_flat (w ∷ ws) = flat_map-cons (λ b. b) (u32 w) (map u32 ws) ∙ ap (λ bytes. u32 w ++ bytes) (bytes_flat ws)

@@ -3,3 +3,4 @@ mod Turns
 mod Blocks
 mod Taken
 pub mod Puts
+pub mod Arrays

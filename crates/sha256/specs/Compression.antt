@@ -1,5 +1,6 @@
 -- The compression of FIPS 180-4, section 6.2.2: from eight words and a block to eight words.
 use Rattle.std.specs.Prelude.{ℕ, zero, suc, ◌+◌, ◌-◌, ◌*◌, List, [], ◌∷◌, ◌++◌, length, slice_index}
+use Rattle.std.specs.List.{fold}
 use Rattle.sha256.specs.Words.{add, Σ₀, Σ₁, σ₀, σ₁, ch, maj}
 
 -- the first 32 bits of the fractional parts of the cube roots of the first 64 primes
@@ -61,6 +62,10 @@ turn k w s =
 unfoldable pub turns : ℕ → List ℕ → List ℕ → List ℕ
 turns zero ws s = s
 turns (suc t) ws s = turn (slice_index constants t) (slice_index ws t) (turns t ws s)
+
+-- turns by pairs of a constant and a word, one after another
+abbrev pub turned : List ℕ → List (ℕ × ℕ) → List ℕ
+turned s pairs = fold (λ s p. turn p.0 p.1 s) s pairs
 
 -- eight sums, word by word
 unfoldable pub added : List ℕ → List ℕ → List ℕ

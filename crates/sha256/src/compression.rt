@@ -1,7 +1,10 @@
 // The compression: from eight words and a block of 64 bytes to eight words.
 ghost use Rattle.std.specs.Prelude.{◌≡◌, ℕ, ◌+◌, ◌<◌, ◌≤◌, List, length, take, slice_index};
-ghost use Rattle.sha256.specs.Compression.{constants, word_at, words_of, next_word, extended, schedule, turn, turns, added, compressed};
+ghost use Rattle.sha256.specs.Compression.{constants, word_at, words_of, next_word, extended, schedule, turn, turned, turns, added, compressed};
+ghost use Rattle.std.specs.List.{zip};
 ghost use Rattle.sha256.specs.Words.{Σ₀, Σ₁, σ₀, σ₁, ch, maj};
+
+use std::array;
 
 const CONSTANTS: [u32; 64] = [
     0x428a_2f98,
@@ -70,13 +73,6 @@ const CONSTANTS: [u32; 64] = [
     0xc671_78f2,
 ];
 
-fn constant(t: usize) -> u32
-    requires { t < 64 }
-    ensures { result ≡ slice_index constants t }
-{
-    CONSTANTS[t]
-}
-
 fn large_sigma_0(x: u32) -> u32
     ensures { result ≡ Σ₀ x }
 {
@@ -113,21 +109,12 @@ fn majority(x: u32, y: u32, z: u32) -> u32
     (x & y) ^ (x & z) ^ (y & z)
 }
 
-fn word_at(bytes: &[u8], i: usize) -> u32
-    requires { i + 4 ≤ length bytes.now }
-    ensures { result ≡ word_at bytes.now i }
+// The block's 16 words.
+fn words_of(block: &[u8; 64]) -> [u32; 16]
+    ensures { result ≡ words_of 16 block.now }
 {
-    u32::from_be_bytes([bytes[i], bytes[i + 1], bytes[i + 2], bytes[i + 3]])
-}
-
-// Writes the block's 16 words in front.
-fn put_words(words: &mut [u32; 64], bytes: &[u8])
-    requires { length bytes.now ≡ 64 }
-    ensures { take 16 words.new ≡ words_of 16 bytes.now }
-{
-    for i in 0..16 {
-        words[i] = word_at(bytes, 4 * i);
-    }
+    let (parts, _) = block.as_chunks::<4>();
+    array::from_fn(|i| u32::from_be_bytes(parts[i]))
 }
 
 fn next_word(words: &[u32; 64], t: usize) -> u32
@@ -140,7 +127,7 @@ fn next_word(words: &[u32; 64], t: usize) -> u32
         .wrapping_add(words[t - 16])
 }
 
-// Writes the 48 words that follow from the first 16.
+// Writes the 48 words that follow from the first 16. Each is made from those before it, so the loop counts its place.
 fn extend(words: &mut [u32; 64])
     ensures { words.new ≡ extended 48 (take 16 words.old) }
 {
@@ -149,75 +136,56 @@ fn extend(words: &mut [u32; 64])
     }
 }
 
-fn schedule_of(bytes: &[u8]) -> [u32; 64]
-    requires { length bytes.now ≡ 64 }
-    ensures { result ≡ schedule bytes.now }
+fn schedule_of(block: &[u8; 64]) -> [u32; 64]
+    ensures { result ≡ schedule block.now }
 {
     let mut words = [0; 64];
-    put_words(&mut words, bytes);
+    words[..16].copy_from_slice(&words_of(block));
     extend(&mut words);
     words
 }
 
-fn one_turn(state: [u32; 8], k: u32, w: u32) -> [u32; 8]
-    ensures { result ≡ turn k w state }
+// One turn, by a constant and a word of the schedule.
+fn one_turn(state: [u32; 8], by: (&u32, &u32)) -> [u32; 8]
+    ensures { result ≡ turn by.entry.0.now by.entry.1.now state }
 {
+    let (k, w) = by;
     let [a, b, c, d, e, f, g, h] = state;
     let t1 = h
         .wrapping_add(large_sigma_1(e))
         .wrapping_add(choice(e, f, g))
-        .wrapping_add(k)
-        .wrapping_add(w);
+        .wrapping_add(*k)
+        .wrapping_add(*w);
     let t2 = large_sigma_0(a).wrapping_add(majority(a, b, c));
     [t1.wrapping_add(t2), a, b, c, d.wrapping_add(t1), e, f, g]
 }
 
-// From the state after t turns to that after t + 8. Eight to a call, so that no word has to move from place to place.
-fn eight_turns(state: [u32; 8], words: &[u32; 64], t: usize) -> [u32; 8]
-    requires { t + 8 ≤ 64 }
-    ensures { (start : List ℕ) → state ≡ turns t words.now start → result ≡ turns (t + 8) words.now start }
+// Eight turns to a call, so that no word has to move from place to place: one at a time is slower by a seventh.
+fn eight_turns(state: [u32; 8], by: (&[u32; 8], &[u32; 8])) -> [u32; 8]
+    ensures { result ≡ turned state (zip by.entry.0.now by.entry.1.now) }
 {
-    let s1 = one_turn(state, constant(t), words[t]);
-    let s2 = one_turn(s1, constant(t + 1), words[t + 1]);
-    let s3 = one_turn(s2, constant(t + 2), words[t + 2]);
-    let s4 = one_turn(s3, constant(t + 3), words[t + 3]);
-    let s5 = one_turn(s4, constant(t + 4), words[t + 4]);
-    let s6 = one_turn(s5, constant(t + 5), words[t + 5]);
-    let s7 = one_turn(s6, constant(t + 6), words[t + 6]);
-    one_turn(s7, constant(t + 7), words[t + 7])
+    let (constants, words) = by;
+    constants.iter().zip(words).fold(state, one_turn)
 }
 
 fn all_turns(start: [u32; 8], words: &[u32; 64]) -> [u32; 8]
     ensures { result ≡ turns 64 words.now start }
 {
-    let mut state = start;
-    for i in 0..8 {
-        let next = eight_turns(state, words, 8 * i);
-        state = next;
-    }
-    state
+    let (constants, _) = CONSTANTS.as_chunks::<8>();
+    let (words, _) = words.as_chunks::<8>();
+    constants.iter().zip(words).fold(start, eight_turns)
 }
 
 fn add_words(x: [u32; 8], y: [u32; 8]) -> [u32; 8]
     ensures { result ≡ added x y }
 {
-    [
-        x[0].wrapping_add(y[0]),
-        x[1].wrapping_add(y[1]),
-        x[2].wrapping_add(y[2]),
-        x[3].wrapping_add(y[3]),
-        x[4].wrapping_add(y[4]),
-        x[5].wrapping_add(y[5]),
-        x[6].wrapping_add(y[6]),
-        x[7].wrapping_add(y[7]),
-    ]
+    array::from_fn(|i| x[i].wrapping_add(y[i]))
 }
 
-pub fn compress(state: [u32; 8], bytes: &[u8]) -> [u32; 8]
-    requires { length bytes.now ≡ 64 }
-    ensures { result ≡ compressed state bytes.now }
+pub fn compress(state: [u32; 8], block: &[u8; 64]) -> [u32; 8]
+    ensures { result ≡ compressed state block.now }
 {
-    let words = schedule_of(bytes);
+    let words = schedule_of(block);
     let turned = all_turns(state, &words);
     add_words(state, turned)
 }

@@ -73,6 +73,14 @@ impl Hasher {
     }
 }
 
+impl Default for Hasher {
+    ghost is_default = { λ hasher. (text : List ℕ) → after hasher text ≡ sha256 text };
+
+    fn default() -> Hasher {
+        Hasher::new()
+    }
+}
+
 // The one bit after the text, and zeros to the block's end.
 fn with_mark(block: [u8; 64], filled: usize) -> [u8; 64]
     requires { filled < 64 }
@@ -97,20 +105,14 @@ fn with_bits(block: [u8; 64], bits: u64) -> [u8; 64]
 fn fold_blocks(start: [u32; 8], bytes: &[u8]) -> [u32; 8]
     ensures { result ≡ folded (length bytes.now / 64) start bytes.now }
 {
-    let mut state = start;
-    for block in bytes.chunks_exact(BLOCK) {
-        let next = compress(state, block);
-        state = next;
-    }
-    state
+    let (blocks, _) = bytes.as_chunks::<BLOCK>();
+    blocks.iter().fold(start, compress)
 }
 
 fn to_bytes(words: [u32; 8]) -> [u8; 32]
     ensures { result ≡ bytes_of words }
 {
     let mut bytes = [0; 32];
-    for i in 0..8 {
-        bytes[4 * i..4 * i + 4].copy_from_slice(&words[i].to_be_bytes());
-    }
+    bytes.copy_from_slice(words.map(u32::to_be_bytes).as_flattened());
     bytes
 }

@@ -1,16 +1,13 @@
-use Rattle.std.proofs.Common.{◌≡◌, length, sym, ◌∙◌, arith}
-use Rattle.sha256.proofs.Blocks.{folded_more, folded_none}
+use Rattle.std.proofs.Common.{◌∙◌, ap, rules}
+use Rattle.sha256.proofs.Blocks.{folded_fold}
+use Rattle.sha256.specs.Compression.{compressed}
+use Rattle.std.proofs.lemmas.Iterator.{YieldsList-from_slice}
+use Rattle.std.proofs.lemmas.Iterator.Consumers.{fold_from_yields_List}
+use Rattle.std.specs.List.{fold}
 use Rattle.sha256.proofs.hasher.fold_blocks.Goals as goal
-
-pub loop-block-preserved : goal.loop-block-preserved
-loop-block-preserved c =
-    let s = c.in-Some.ensures.steps in
-    let whole : length c.in-Some.block.now ≡ 64 = cc in
-    let e = folded_more c.loop-block.state _ c.in-Some.block.now _ s.1.0 whole in
-    (cc, cc)
 
 pub returns : goal.returns
 returns c =
-    let s = c.in-None.ensures.steps in
-    let i = c.loop-block.invariant in
-    sym (sym i.1 ∙ folded_none _ _ (omega arith))
+    fold_from_yields_List _ compressed _ _ c.fold.ensures.ran (YieldsList-from_slice _ (c.iter.ensures.rest)) (λ a x b q k. search rules)
+    ∙ ap (fold compressed c.args.start) c.as_chunks.ensures.front
+    ∙ folded_fold _ c.args.start c.args.bytes.now
