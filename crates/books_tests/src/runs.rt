@@ -185,6 +185,6 @@ fn too_many_pallets(rt: HostRuntime) -> Result<(), Fail> {
     let Err(fault) = ship([1 << 35; 64], 1) else {
         return Err(Fail::new("set up"));
     };
-    assert_eq!(rt; fault.refusal().number, 17);
+    assert_eq!(rt; fault.refusal().number(), 17);
     Ok(())
 }

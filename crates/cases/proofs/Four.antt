@@ -5,6 +5,7 @@ use Rattle.std.proofs.lemmas.Bool.{or_cases, false≢true}
 use Rattle.std.proofs.lemmas.Slice.Eq.{bytes_eq-Decides}
 use Rattle.refusals.specs.Reading.{Reading, found}
 use Rattle.refusals.specs.declared.Layer.TheVariants as layer
+use Rattle.refusals.specs.declared.Cause.TheVariants as cause
 use Rattle.refusals.proofs.Steps.{never, ok_then, ok_unless, ok_within}
 use Rattle.docket.specs.declared.Docket.{Docket}
 use Rattle.docket.specs.Layout.{encoded}
@@ -41,8 +42,8 @@ all_sealed good pool count needed bs k d e read accepts i =
     let r = ok_then _ _ d accepts in
     let same : r.0 ≡ k = ok_contents (sym (ok_within _ _ _ r.0 r.1) ∙ read) in
     let j : judged_contents good pool needed bs k ≡ Ok d = subst (λ x. judged_contents good pool needed bs x ≡ Ok d) same r.2 in
-    let p = ok_unless (not (eqb k.docket.pool pool)) (found layer.Box 2 0) _ d j in
-    let q = ok_unless (ltb (length k.entries) needed) (found layer.Box 8 0) _ d p.1 in
+    let p = ok_unless (not (eqb k.docket.pool pool)) (found layer.Box cause.AnotherPool 0) _ d j in
+    let q = ok_unless (ltb (length k.entries) needed) (found layer.Box cause.TooFewEntries 0) _ d p.1 in
     entry_sealed good bs k.docket k.docket d 4 k.entries e q.1 i
   where
     ok_contents : {x : Contents} → ◌≡◌ {A = Result Contents Reading} (Ok x) (Ok k) → x ≡ k

@@ -2,6 +2,7 @@
 use Rattle.std.specs.Prelude.{◌≡◌, ℕ, ◌+◌, ◌^◌, true, List, [], ◌∷◌, ◌++◌, map, length, take, replicate, None, Ok, Err, Result}
 use Rattle.refusals.specs.Reading.{Reading, found}
 use Rattle.refusals.specs.declared.Layer.TheVariants as layer
+use Rattle.refusals.specs.declared.Cause.TheVariants as cause
 use Rattle.docket.specs.declared.Docket.{Docket}
 use Rattle.docket.specs.Layout.{encoded, read_docket}
 use Rattle.certificate.specs.declared.table.Entry.{Entry}
@@ -95,12 +96,12 @@ once_more = join ∷ countersign (encoded (docket_of 0)) [] ∷ restart ∷ join
 
 -- the table
 pub record WorkedCases : Type 0 where
-  pub of_79_bytes : read_docket (replicate 79 0) ≡ Err (found layer.Docket 1 79)
-  pub no_lines : read_docket (encoded (with 0 1)) ≡ Err (found layer.Docket 1 5)
-  pub five_lines : read_docket (encoded (with 5 1)) ≡ Err (found layer.Docket 1 5)
+  pub of_79_bytes : read_docket (replicate 79 0) ≡ Err (found layer.Docket cause.Malformed 79)
+  pub no_lines : read_docket (encoded (with 0 1)) ≡ Err (found layer.Docket cause.Malformed 5)
+  pub five_lines : read_docket (encoded (with 5 1)) ≡ Err (found layer.Docket cause.Malformed 5)
   pub four_lines : read_docket (encoded (with 4 1)) ≡ Ok (with 4 1)
-  pub number_0 : read_docket (encoded (with 1 0)) ≡ Err (found layer.Docket 1 8)
-  pub number_past : read_docket (encoded (with 1 (2 ^ 40 + 1))) ≡ Err (found layer.Docket 1 8)
+  pub number_0 : read_docket (encoded (with 1 0)) ≡ Err (found layer.Docket cause.Malformed 8)
+  pub number_past : read_docket (encoded (with 1 (2 ^ 40 + 1))) ≡ Err (found layer.Docket cause.Malformed 8)
   pub number_last : read_docket (encoded (with 1 (2 ^ 40))) ≡ Ok (with 1 (2 ^ 40))
   pub three_seals : length cert_p ≡ 114
   pub places : map (λ (e : Entry). e.place) (contents_of (docket_of 0) (signers 3)).entries ≡ 108 ∷ 110 ∷ 112 ∷ []
@@ -113,15 +114,15 @@ pub record WorkedCases : Type 0 where
   pub r_q_p_balances : balances (cert_r ∷ cert_q ∷ cert_p ∷ []) ≡ 1 ∷ 1 ∷ 0 ∷ []
   pub q_p_r_balances : balances (cert_q ∷ cert_p ∷ cert_r ∷ []) ≡ 1 ∷ 1 ∷ 0 ∷ []
   pub number_4_waits : trusting (certificate_of 3 0 (with 1 4)) ≡ Ok 0
-  pub number_5_first : trusting (certificate_of 3 0 (with 1 5)) ≡ Err (found layer.Box 10 0)
-  pub two_entries : given (certificate_of 2 0 (docket_of 0) ∷ []) ≡ Refused 8 ∷ []
+  pub number_5_first : trusting (certificate_of 3 0 (with 1 5)) ≡ Err (found layer.Box cause.TooFarAhead 0)
+  pub two_entries : given (certificate_of 2 0 (docket_of 0) ∷ []) ≡ Refused cause.TooFewEntries ∷ []
   pub three_entries : given (cert_p ∷ []) ≡ Settled 1 ∷ []
   pub p_first : countersigned [] (join ∷ []) (docket_of 0) ≡ Ok slip
   pub p_then_p : countersigned [] once_more (docket_of 0) ≡ Ok slip
-  pub p_then_s : countersigned [] once_more docket_s ≡ Err (found layer.Box 6 0)
-  pub new_mark_stands : countersigned (ends FailsNew ∷ []) (join ∷ []) (docket_of 0) ≡ Err (found layer.Box 14 0)
+  pub p_then_s : countersigned [] once_more docket_s ≡ Err (found layer.Box cause.OtherMarked 0)
+  pub new_mark_stands : countersigned (ends FailsNew ∷ []) (join ∷ []) (docket_of 0) ≡ Err (found layer.Box cause.WriteFailed 0)
   pub new_mark_then_p : countersigned (ends FailsNew ∷ []) once_more (docket_of 0) ≡ Ok slip
-  pub new_mark_then_s : countersigned (ends FailsNew ∷ []) once_more docket_s ≡ Err (found layer.Box 6 0)
-  pub old_mark_stays : countersigned (ends FailsOld ∷ []) (join ∷ []) (docket_of 0) ≡ Err (found layer.Box 14 0)
+  pub new_mark_then_s : countersigned (ends FailsNew ∷ []) once_more docket_s ≡ Err (found layer.Box cause.OtherMarked 0)
+  pub old_mark_stays : countersigned (ends FailsOld ∷ []) (join ∷ []) (docket_of 0) ≡ Err (found layer.Box cause.WriteFailed 0)
   pub old_mark_then_s : countersigned (ends FailsOld ∷ []) once_more docket_s ≡ Ok slip
-  pub amount_2 : countersigned [] (join ∷ []) two_pallets ≡ Err (found layer.Box 7 0)
+  pub amount_2 : countersigned [] (join ∷ []) two_pallets ≡ Err (found layer.Box cause.NotCovered 0)

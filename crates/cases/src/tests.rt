@@ -5,6 +5,7 @@ use book::{Book, PalletBook};
 use books::{BallotQuestion, PairAnswer, PairQuestion, ship};
 use certificate::{Certificate, CertificateFault, Signer};
 use docket::{Docket, DocketFault};
+use refusals::Cause;
 use seals::{Checker, Roll};
 use settlement::{BoxFault, ColdBox};
 use std::test::Fail;
@@ -154,18 +155,23 @@ fn trusting_box() -> Result<ColdBox<PalletBook, Trusting>, Fail> {
     }
 }
 
+// The answer of a box that refuses under this number.
+fn refused(number: u8) -> Result<Answer, Fail> {
+    Ok(Answer::Refused(Cause::try_from(number)?))
+}
+
 #[test]
 fn window(rt: HostRuntime) -> Result<(), Fail> {
     let mut cold = trusting_box()?;
     let table = [
-        (with(1, 5), true, Answer::Refused(10)),
+        (with(1, 5), true, refused(10)?),
         (with(1, 4), true, Answer::Settled(0)),
-        (with(1, 4), true, Answer::Refused(11)),
-        (with(2, 4), true, Answer::Refused(12)),
-        (with(1, 1), false, Answer::Refused(8)),
+        (with(1, 4), true, refused(11)?),
+        (with(2, 4), true, refused(12)?),
+        (with(1, 1), false, refused(8)?),
         (with(1, 1), true, Answer::Settled(1)),
-        (with(1, 1), true, Answer::Refused(4)),
-        (with(5, 2), true, Answer::Refused(1)),
+        (with(1, 1), true, refused(4)?),
+        (with(5, 2), true, refused(1)?),
     ];
     for (docket, three, answer) in table {
         let mut bytes = [0u8; 128];

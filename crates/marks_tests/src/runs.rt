@@ -87,7 +87,7 @@ fn the_longest_row(rt: HostRuntime) -> Result<(), Fail> {
     let Err(fault) = TableStore::new(0, &[Outcome::Stands; 65]) else {
         return Err(Fail::new("a row of 65"));
     };
-    assert_eq!(rt; fault.refusal().number, 18);
+    assert_eq!(rt; fault.refusal().number(), 18);
     Ok(())
 }
 
@@ -106,7 +106,7 @@ fn judged(rt: &impl Abort, bytes: &mut [u8; 65537], len: usize, laid: bool) {
         Ok(_) => assert!(rt; laid),
         Err(fault) => {
             assert!(rt; !laid);
-            assert_eq!(rt; fault.refusal().number, 18);
+            assert_eq!(rt; fault.refusal().number(), 18);
         }
     }
     assert!(rt; *bytes == before);

@@ -5,6 +5,7 @@ use Rattle.std.proofs.lemmas.Bool.Decides.{nat_tests}
 use Rattle.std.proofs.lemmas.Bool.{ltb-true, eqb-true}
 use Rattle.refusals.specs.Reading.{Reading, found}
 use Rattle.refusals.specs.declared.Layer.TheVariants as layer
+use Rattle.refusals.specs.declared.Cause.TheVariants as cause
 use Rattle.refusals.proofs.Steps.{ok_then, ok_unless, ok_within}
 use Rattle.docket.specs.declared.Docket.{Docket}
 use Rattle.docket.specs.Layout.{encoded, read_docket}
@@ -44,7 +45,7 @@ not_false_eq m n h = grind (arith, nat_tests)
 judged_pool : {State : Type 0} (good : ℕ → List ℕ → List ℕ → Bool) (b : BoxState State) (bs seal : List ℕ) (d e : Docket) → judged_docket good b bs seal d ≡ Ok e → (d.pool ≡ b.pool) × (d ≡ e)
 judged_pool good b bs seal d e h =
     let due = (account_of b.accounts d.account).next in
-    let p = past_four (not (eqb d.pool b.pool)) (not (good d.account bs seal)) (ltb d.number due) (ltb due d.number) (found layer.Box 2 0) (found layer.Box 3 0) (found layer.Box 4 0) (found layer.Box 5 0) d e h in
+    let p = past_four (not (eqb d.pool b.pool)) (not (good d.account bs seal)) (ltb d.number due) (ltb due d.number) (found layer.Box cause.AnotherPool 0) (found layer.Box cause.YardSeal 0) (found layer.Box cause.BelowNext 0) (found layer.Box cause.AboveNext 0) d e h in
     (not_false_eq _ _ p.0, p.1)
 
 examined_again : {State : Type 0} (good : ℕ → List ℕ → List ℕ → Bool) (b : BoxState State) (bs seal : List ℕ) (d : Docket) → b.pool < 4294967296 → examined good b bs seal ≡ Ok d → read_docket (encoded d) ≡ Ok d
@@ -64,13 +65,13 @@ module _
     by_cover_lem d None f = wrote d f
     by_cover_lem d (Some place) f = same
 
-    by_same_lem : (d : Docket) (t : Bool) → P (store_after s (cond t (marked d) (refuses (found layer.Box 6 0))))
+    by_same_lem : (d : Docket) (t : Bool) → P (store_after s (cond t (marked d) (refuses (found layer.Box cause.OtherMarked 0))))
     by_same_lem d true = same
     by_same_lem d false = same
 
     by_numbers :
         (d m : Docket) (lower higher same_bytes : Bool) (o : Option ℕ) → read_docket (encoded d) ≡ Ok d → s.mark d.account ≡ Some m → ltb m.number d.number ≡ higher
-        → P (store_after s (cond lower (refuses (found layer.Box 6 0)) (cond higher (by_cover d o) (cond same_bytes (marked d) (refuses (found layer.Box 6 0))))))
+        → P (store_after s (cond lower (refuses (found layer.Box cause.OtherMarked 0)) (cond higher (by_cover d o) (cond same_bytes (marked d) (refuses (found layer.Box cause.OtherMarked 0))))))
     by_numbers d m true higher t o again e h = same
     by_numbers d m false true t o again e h = by_cover_lem d o (record { again = again; above = subst (λ x. Above x d) (sym e) (ltb-true _ _ h) })
     by_numbers d m false false t o again e h = by_same_lem d t
@@ -79,7 +80,7 @@ module _
     by_mark_lem d o None again e = by_cover_lem d o (record { again = again; above = subst (λ x. Above x d) (sym e) tt })
     by_mark_lem d o (Some m) again e = by_numbers d m (ltb d.number m.number) (ltb m.number d.number) (bytes_eq (encoded m) (encoded d)) o again e refl
 
-    by_owner : (d : Docket) (other : Bool) (f : Finding) → P (store_after s f) → P (store_after s (cond other (refuses (found layer.Box 13 0)) f))
+    by_owner : (d : Docket) (other : Bool) (f : Finding) → P (store_after s f) → P (store_after s (cond other (refuses (found layer.Box cause.OtherOwner 0)) f))
     by_owner d true f p = same
     by_owner d false f p = p
 

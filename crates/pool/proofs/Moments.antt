@@ -2,6 +2,8 @@
 use Rattle.std.proofs.Common.{◌≡◌, ℕ, ◌<◌, Bool, true, false, cond, not, eqb, ◌⊎◌, List, [], ◌∷◌, ◌++◌, map, Some, None, Ok, Err, Option, Result, sym, refl, ap, ◌∙◌, subst, inl, inr, ⊎_elim, arith}
 use Rattle.refusals.specs.Reading.{Reading, found}
 use Rattle.refusals.specs.declared.Layer.TheVariants as layer
+use Rattle.refusals.specs.declared.Cause.{Cause}
+use Rattle.refusals.specs.declared.Cause.TheVariants as cause
 use Rattle.docket.specs.declared.Docket.{Docket}
 use Rattle.docket.specs.Layout.{encoded, read_docket}
 use Rattle.seals.specs.Texts.{countersign_text}
@@ -68,8 +70,8 @@ module _ (number : ℕ) (s : StoreState) (texts : List (List ℕ)) (h : StoreHol
 
 release_adds : {State : Type 0} (b : BoxState State) (s : StoreState) (slip : SlipState) (texts : List (List ℕ)) → StoreHolds b.number s texts → StoreHolds b.number s (adding texts (released_text b s slip))
 unfolding released_text
-release_adds b s slip texts h = unless 13 (not (eqb s.owner b.number)) _ (unless 15 (not (eqb slip.maker b.number)) _ (by_text (s.mark slip.account) refl)) where
-  by_number : (m : Docket) (t : Bool) → s.mark slip.account ≡ Some m → StoreHolds b.number s (adding texts (cond t (Ok (countersign_text b.number (encoded m))) (Err (found layer.Box 15 0))))
+release_adds b s slip texts h = unless cause.OtherOwner (not (eqb s.owner b.number)) _ (unless cause.NotMarked (not (eqb slip.maker b.number)) _ (by_text (s.mark slip.account) refl)) where
+  by_number : (m : Docket) (t : Bool) → s.mark slip.account ≡ Some m → StoreHolds b.number s (adding texts (cond t (Ok (countersign_text b.number (encoded m))) (Err (found layer.Box cause.NotMarked 0))))
   by_number m true e = text_added b.number s texts h slip.account m e
   by_number m false e = h
 
@@ -77,9 +79,9 @@ release_adds b s slip texts h = unless 13 (not (eqb s.owner b.number)) _ (unless
   by_text None e = h
   by_text (Some m) e = by_number m (eqb m.number slip.number) e
 
-  unless : (refusal : ℕ) (t : Bool) (r : Result (List ℕ) Reading) → StoreHolds b.number s (adding texts r) → StoreHolds b.number s (adding texts (cond t (Err (found layer.Box refusal 0)) r))
-  unless refusal true r k = h
-  unless refusal false r k = k
+  unless : (why : Cause) (t : Bool) (r : Result (List ℕ) Reading) → StoreHolds b.number s (adding texts r) → StoreHolds b.number s (adding texts (cond t (Err (found layer.Box why 0)) r))
+  unless why true r k = h
+  unless why false r k = k
 
 module _ {State : Type 0} (valid : State → ℕ → List ℕ → Bool) (next : State → ℕ → List ℕ → State) (good : ℕ → List ℕ → List ℕ → Bool) where
   countersign_keeps :

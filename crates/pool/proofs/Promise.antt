@@ -3,6 +3,7 @@ use Rattle.std.proofs.Common.{◌≡◌, ℕ, ◌+◌, ◌<◌, ◌≤◌, Bool,
 use Rattle.std.proofs.lemmas.Bool.{ltb-false}
 use Rattle.refusals.specs.Reading.{found}
 use Rattle.refusals.specs.declared.Layer.TheVariants as layer
+use Rattle.refusals.specs.declared.Cause.TheVariants as cause
 use Rattle.refusals.proofs.Steps.{never, ok_then, ok_unless, ok_within}
 use Rattle.docket.specs.declared.Docket.{Docket}
 use Rattle.docket.specs.Layout.{encoded, read_docket}
@@ -49,8 +50,8 @@ certified good pool count quorum bs d small h =
     let r = ok_then _ _ d h in
     let k = r.0 in
     let is = ok_within _ _ _ k r.1 in
-    let p = ok_unless (not (eqb k.docket.pool pool)) (found layer.Box 2 0) _ d r.2 in
-    let q = ok_unless (ltb (length k.entries) quorum) (found layer.Box 8 0) _ d p.1 in
+    let p = ok_unless (not (eqb k.docket.pool pool)) (found layer.Box cause.AnotherPool 0) _ d r.2 in
+    let q = ok_unless (ltb (length k.entries) quorum) (found layer.Box cause.TooFewEntries 0) _ d p.1 in
     let same = unless_bad_lem k.docket d (first_bad good bs k.docket 4 k.entries) q.1 in
     let named : k.docket.pool ≡ pool = not_false_eq _ _ p.0 in
     record {

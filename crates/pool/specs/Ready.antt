@@ -3,6 +3,7 @@ use Rattle.std.specs.Prelude.{ℕ, Bool, cond, not, List, Some, None, Ok, Err, O
 use Rattle.std.specs.Str.{bytes_eq}
 use Rattle.refusals.specs.Reading.{Reading, found, if_ok}
 use Rattle.refusals.specs.declared.Layer.TheVariants as layer
+use Rattle.refusals.specs.declared.Cause.TheVariants as cause
 use Rattle.docket.specs.declared.Docket.{Docket}
 use Rattle.docket.specs.Layout.{encoded}
 use Rattle.seals.specs.Texts.{countersign_text}
@@ -48,18 +49,18 @@ by_cover d (Some place) = not_covered place
 
 -- against a mark of this number
 abbrev pub by_same : Docket → Docket → Finding
-by_same d m = cond (bytes_eq (encoded m) (encoded d)) (marked d) (refuses (found layer.Box 6 0))
+by_same d m = cond (bytes_eq (encoded m) (encoded d)) (marked d) (refuses (found layer.Box cause.OtherMarked 0))
 
 -- against the mark of its account; `covers` is what follows where the mark, if there is one, has a lower number
 abbrev pub by_mark : Docket → Finding → Option Docket → Finding
 by_mark d covers None = covers
 by_mark d covers (Some m) =
-    cond (nat_lt d.number m.number) (refuses (found layer.Box 6 0))
+    cond (nat_lt d.number m.number) (refuses (found layer.Box cause.OtherMarked 0))
     (cond (nat_lt m.number d.number) covers (by_same d m))
 
 abbrev pub by_store : {State : Type 0} → (State → ℕ → List ℕ → Bool) → (State → ℕ → List ℕ → State) → BoxState State → StoreState → Docket → Finding
 by_store valid next b s d =
-    cond (not (s.owner == b.number)) (refuses (found layer.Box 13 0))
+    cond (not (s.owner == b.number)) (refuses (found layer.Box cause.OtherOwner 0))
     (by_mark d (by_cover d (uncovered valid next b.current d)) (s.mark d.account))
 
 abbrev pub by_examined : Result Docket Reading → (Docket → Finding) → Finding
@@ -73,8 +74,8 @@ finding valid next good b s bs seal = by_examined (examined good b bs seal) (by_
 abbrev pub slip_after : {State : Type 0} → BoxState State → StoreState → Finding → Result SlipState Reading
 slip_after b s (refuses r) = Err r
 slip_after b s (marked d) = Ok (slip_for b d)
-slip_after b s (not_covered place) = refused 7 place
-slip_after b s (to_write d) = cond (write_answer s.row d) (Ok (slip_for b d)) (refused 14 0)
+slip_after b s (not_covered place) = refused cause.NotCovered place
+slip_after b s (to_write d) = cond (write_answer s.row d) (Ok (slip_for b d)) (refused cause.WriteFailed 0)
 
 -- countersign: the store that is left, which differs only where the docket was to be written
 abbrev pub store_after : StoreState → Finding → StoreState
@@ -92,13 +93,13 @@ box_after b (to_write d) = level_box b
 
 -- release: the text of the mark that the slip was made for
 abbrev pub text_of : {State : Type 0} → BoxState State → ℕ → Option Docket → Result (List ℕ) Reading
-text_of b number None = refused 15 0
-text_of b number (Some m) = cond (m.number == number) (Ok (countersign_text b.number (encoded m))) (refused 15 0)
+text_of b number None = refused cause.NotMarked 0
+text_of b number (Some m) = cond (m.number == number) (Ok (countersign_text b.number (encoded m))) (refused cause.NotMarked 0)
 
 unfoldable pub released_text : {State : Type 0} → BoxState State → StoreState → SlipState → Result (List ℕ) Reading
 released_text b s slip =
-    cond (not (s.owner == b.number)) (refused 13 0)
-    (cond (not (slip.maker == b.number)) (refused 15 0)
+    cond (not (s.owner == b.number)) (refused cause.OtherOwner 0)
+    (cond (not (slip.maker == b.number)) (refused cause.NotMarked 0)
     (text_of b slip.number (s.mark slip.account)))
 
 -- the buffer after release: the text, or what it was

@@ -48,7 +48,7 @@ fn answer_to<S: MarkStore>(
         }
         Err(fault) => {
             let refusal = fault.refusal();
-            Some((refusal.number, refusal.place))
+            Some((refusal.number(), refusal.place))
         }
     }
 }

@@ -8,6 +8,9 @@ ghost use Rattle.refusals.specs.Reading.{Reading, outermost};
 use std::fmt;
 use thiserror::Error;
 
+#[cfg(test)]
+mod tests;
+
 // A part of the product that judges something of its own.
 #[derive(Clone, Copy, PartialEq, Eq, Debug)]
 pub enum Layer {

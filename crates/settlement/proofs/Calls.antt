@@ -5,6 +5,7 @@ use Rattle.settling.specs.Window.{fresh}
 use Rattle.settlement.specs.Accept.{refused}
 use Rattle.settlement.specs.Box.{BoxState, in_range, set_up, taken_docket, settled_with, with_ledger, take_answer, take_box}
 use Rattle.refusals.specs.Reading.{Reading}
+use Rattle.refusals.specs.declared.Cause.TheVariants as cause
 use Rattle.docket.specs.declared.Docket.{Docket}
 use Rattle.settling.specs.Settle.{Ledger}
 
@@ -16,7 +17,7 @@ module _ {State : Type 0} where
   unfolding set_up
   set_up_made pool number f first opening kept current accounts t o k c a = simp (sym t, o, k, c, a)
 
-  pub set_up_refused : (pool number f : ℕ) (first : State) → false ≡ in_range number f → refused 16 0 ≡ set_up pool number f first
+  pub set_up_refused : (pool number f : ℕ) (first : State) → false ≡ in_range number f → refused cause.OutOfRange 0 ≡ set_up pool number f first
   unfolding set_up
   set_up_refused pool number f first t = simp (sym t)
 

@@ -1,6 +1,7 @@
 -- A box, and what its calls answer and leave.
 use Rattle.std.specs.Prelude.{ℕ, ◌+◌, ◌*◌, Bool, cond, ◌&&◌, List, replicate, Some, None, Ok, Err, Option, Result, nat_le, nat_lt}
 use Rattle.refusals.specs.Reading.{Reading, and_then, if_ok}
+use Rattle.refusals.specs.declared.Cause.TheVariants as cause
 use Rattle.docket.specs.declared.Docket.{Docket}
 use Rattle.docket.specs.Layout.{encoded}
 use Rattle.settling.specs.declared.account.Account.{Account}
@@ -54,7 +55,7 @@ set_up pool number f opening =
       current = opening;
       accounts = replicate 64 fresh;
     }))
-    (refused 16 0)
+    (refused cause.OutOfRange 0)
 
 -- restart: the book is at its opening again, every next number is 1 and no cell is filled
 abbrev pub restart_box : {State : Type 0} → BoxState State → BoxState State

@@ -2,6 +2,7 @@
 use Rattle.std.specs.Prelude.{ℕ, ◌+◌, Bool, cond, not, List, [], ◌∷◌, Some, None, Ok, Option, Result, ◌==◌, nat_lt}
 use Rattle.refusals.specs.Reading.{Reading, and_then, within}
 use Rattle.refusals.specs.declared.Layer.TheVariants as layer
+use Rattle.refusals.specs.declared.Cause.TheVariants as cause
 use Rattle.docket.specs.declared.Docket.{Docket}
 use Rattle.docket.specs.Layout.{read_docket, used_lines}
 use Rattle.settling.specs.Window.{account_of}
@@ -12,10 +13,10 @@ use Rattle.settlement.specs.Box.{BoxState}
 abbrev pub judged_docket : {State : Type 0} → (ℕ → List ℕ → List ℕ → Bool) → BoxState State → List ℕ → List ℕ → Docket → Result Docket Reading
 judged_docket good b bs seal d =
     let due = (account_of b.accounts d.account).next in
-    cond (not (d.pool == b.pool)) (refused 2 0)
-    (cond (not (good d.account bs seal)) (refused 3 0)
-    (cond (nat_lt d.number due) (refused 4 0)
-    (cond (nat_lt due d.number) (refused 5 0)
+    cond (not (d.pool == b.pool)) (refused cause.AnotherPool 0)
+    (cond (not (good d.account bs seal)) (refused cause.YardSeal 0)
+    (cond (nat_lt d.number due) (refused cause.BelowNext 0)
+    (cond (nat_lt due d.number) (refused cause.AboveNext 0)
     (Ok d))))
 
 -- the docket that is handed in with a yard's seal

@@ -5,15 +5,18 @@ ghost use Rattle.settlement.specs.Faults.{box_reading};
 
 use certificate::CertificateFault;
 use docket::DocketFault;
-use refusals::{Fault, Layer, Refusal};
-use std::fmt;
+use refusals::{Cause, Fault, Layer, Refusal};
+use thiserror::Error;
 
-// Why a box refuses a call.
-#[derive(Clone, Copy, PartialEq, Eq, Debug)]
+// Why a box refuses a call. What it found inside is printed after its own refusal, on the same line.
+#[derive(Clone, Copy, PartialEq, Eq, Debug, Error)]
+#[error("{}", self.refusal())]
 pub enum BoxFault {
     // The certificate's bytes are refused.
+    #[error("{}; {}", self.refusal(), .0)]
     Certificate(CertificateFault),
     // The docket's bytes are refused.
+    #[error("{}; {}", self.refusal(), .0)]
     Docket(DocketFault),
     // The docket names another pool.
     AnotherPool,
@@ -67,44 +70,29 @@ impl Fault for BoxFault {
     ghost reading = { box_reading };
 
     fn refusal(&self) -> Refusal {
-        let (number, place) = match self {
-            BoxFault::Certificate(inner) => (inner.refusal().number, 0),
-            BoxFault::Docket(inner) => (inner.refusal().number, 0),
-            BoxFault::AnotherPool => (2, 0),
-            BoxFault::YardSeal => (3, 0),
-            BoxFault::BelowNext => (4, 0),
-            BoxFault::AboveNext => (5, 0),
-            BoxFault::OtherMarked => (6, 0),
-            BoxFault::NotCovered(place) => (7, *place),
-            BoxFault::TooFewEntries => (8, 0),
-            BoxFault::BadSeal(place) => (9, *place),
-            BoxFault::TooFarAhead => (10, 0),
-            BoxFault::AlreadyWaiting => (11, 0),
-            BoxFault::OtherWaiting => (12, 0),
-            BoxFault::OtherOwner => (13, 0),
-            BoxFault::WriteFailed => (14, 0),
-            BoxFault::NotMarked => (15, 0),
-            BoxFault::OutOfRange => (16, 0),
+        let (cause, place) = match self {
+            BoxFault::Certificate(inner) => (inner.refusal().cause, 0),
+            BoxFault::Docket(inner) => (inner.refusal().cause, 0),
+            BoxFault::AnotherPool => (Cause::AnotherPool, 0),
+            BoxFault::YardSeal => (Cause::YardSeal, 0),
+            BoxFault::BelowNext => (Cause::BelowNext, 0),
+            BoxFault::AboveNext => (Cause::AboveNext, 0),
+            BoxFault::OtherMarked => (Cause::OtherMarked, 0),
+            BoxFault::NotCovered(place) => (Cause::NotCovered, *place),
+            BoxFault::TooFewEntries => (Cause::TooFewEntries, 0),
+            BoxFault::BadSeal(place) => (Cause::BadSeal, *place),
+            BoxFault::TooFarAhead => (Cause::TooFarAhead, 0),
+            BoxFault::AlreadyWaiting => (Cause::AlreadyWaiting, 0),
+            BoxFault::OtherWaiting => (Cause::OtherWaiting, 0),
+            BoxFault::OtherOwner => (Cause::OtherOwner, 0),
+            BoxFault::WriteFailed => (Cause::WriteFailed, 0),
+            BoxFault::NotMarked => (Cause::NotMarked, 0),
+            BoxFault::OutOfRange => (Cause::OutOfRange, 0),
         };
         Refusal {
             layer: Layer::Box,
-            number,
+            cause,
             place,
         }
-    }
-}
-
-// The box's own refusal, then what it found inside, on the same line.
-impl fmt::Display for BoxFault {
-    fn fmt<W: fmt::Write>(&self, f: &mut fmt::Formatter<W>) -> fmt::Result {
-        let refusal = self.refusal();
-        write!(f, "{refusal}")?;
-        if let BoxFault::Certificate(inner) = self {
-            write!(f, "; {inner}")?;
-        }
-        if let BoxFault::Docket(inner) = self {
-            write!(f, "; {inner}")?;
-        }
-        Ok(())
     }
 }

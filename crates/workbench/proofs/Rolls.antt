@@ -10,6 +10,7 @@ use Rattle.std.specs.declared.alloc.AllocError.{AllocError}
 use Rattle.std.specs.declared.alloc.Global.{Global}
 use Rattle.refusals.specs.Reading.{Reading, found}
 use Rattle.refusals.specs.declared.Layer.TheVariants.{Book}
+use Rattle.refusals.specs.declared.Cause.TheVariants as cause
 use Rattle.book.specs.Pallets.{States, set_up, pallet_valid, pallet_next}
 use Rattle.seals.specs.Roll.{good_under}
 use Rattle.workbench.specs.declared.answer.Answer.{Answer}
@@ -50,7 +51,7 @@ opened_by true s t e h = ap (λ (r : Result States Reading). opening_or s r) h
 opened_by false s t e h = let z : ◌≡◌ {A = ℕ} 0 1 = cc in absurd (omega arith)
 
 pub opened : (balances : List ℕ) (s : States) → Ok s ≡ set_up balances → s.opening ≡ balances
-opened balances s h = opened_by (leb (sum balances) (2 ^ 40)) s (record { opening = balances; kept = balances; current = balances }) (found Book 17 0) h
+opened balances s h = opened_by (leb (sum balances) (2 ^ 40)) s (record { opening = balances; kept = balances; current = balances }) (found Book cause.Overfull 0) h
 
 pub bench_same :
     (roll opening stream : List ℕ) (r : Result (Vec Answer Global) AllocError) → roll ≡ bench_roll → opening ≡ opening_balances

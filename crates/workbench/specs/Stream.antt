@@ -1,7 +1,7 @@
 -- A stream of certificates, each after its length in two bytes, and what a box answers to it.
 use Rattle.std.specs.Prelude.{ℕ, zero, suc, ◌+◌, ◌*◌, Bool, cond, List, [], ◌∷◌, length, drop, Some, None, Ok, Err, Option, Result, nat_lt, slice_index}
 use Rattle.std.specs.List.{between}
-use Rattle.refusals.specs.Reading.{Reading, number}
+use Rattle.refusals.specs.Reading.{Reading, cause}
 use Rattle.settlement.specs.Box.{BoxState, take_answer, take_box}
 use Rattle.workbench.specs.declared.answer.Answer.{Answer}
 use Rattle.workbench.specs.declared.answer.Answer.TheVariants.{Settled, Refused}
@@ -25,10 +25,10 @@ frames_up_to (suc k) stream = then_frames (frames_up_to k) stream (frame_size st
 unfoldable pub certificates_in : List ℕ → List (List ℕ)
 certificates_in stream = frames_up_to (length stream) stream
 
--- what is told of a take: the count of settled dockets, or the refusal's number
+-- what is told of a take: the count of settled dockets, or the refusal's cause
 abbrev pub told : Result ℕ Reading → Answer
 told (Ok count) = Settled count
-told (Err fault) = Refused (number fault)
+told (Err fault) = Refused (cause fault)
 
 -- a box takes certificates one after another
 abbrev pub answers_to : {State : Type 0} → (State → ℕ → List ℕ → Bool) → (State → ℕ → List ℕ → State) → (ℕ → List ℕ → List ℕ → Bool) → BoxState State → List (List ℕ) → List Answer

@@ -34,7 +34,7 @@ pub fn hand_in<B: Book, C: Checker>(cold: &mut ColdBox<B, C>, certificate: &[u8]
 {
     match cold.take(certificate) {
         Ok(count) => Answer::Settled(count),
-        Err(fault) => Answer::Refused(fault.refusal().number),
+        Err(fault) => Answer::Refused(fault.refusal().cause),
     }
 }
 
