@@ -1,16 +1,13 @@
 -- The certificate that votes make. Assumes nothing.
-use Rattle.std.proofs.Common.{◌≡◌, ℕ, ◌+◌, ◌-◌, Bool, true, false, List, [], ◌∷◌, ◌++◌, get_or, take, replicate, is_some, IfOk, Some, None, Ok, Err, Option, Result, sym, refl, ap, ◌∙◌, add-one, arith}
-use Rattle.std.proofs.lemmas.Result.{IfOk-weaker}
+use Rattle.std.proofs.Common.{◌≡◌, ℕ, ◌+◌, ◌-◌, Bool, true, false, List, [], ◌∷◌, ◌++◌, get_or, take, replicate, is_some, IfOk, Some, None, Ok, Err, Option, Result, sym, refl, ap, ◌∙◌, subst, add-one, arith}
 use Rattle.std.proofs.lemmas.List.{append-nil}
 use Rattle.refusals.specs.Reading.{Reading, if_ok}
 use Rattle.docket.specs.declared.Docket.{Docket}
 use Rattle.certificate.specs.Layout.{write_answer, write_buffer}
 use Rattle.certificate.specs.declared.table.Signer.{Signer}
-use Rattle.book.specs.declared.pallets.PalletBook.{PalletBook}
-use Rattle.marks.specs.declared.table.TableStore.{TableStore}
-use Rattle.ready.specs.declared.state.ReadyBox.{ReadyBox}
-use Rattle.accident.specs.Story.{signer_of, seal_of, signers_in, seals_in, certified_answer, certified_buffer, certificate_of, stand_of, took, HasTaken}
-use Rattle.accident.specs.declared.dockets.Offer.{Offer}
+use Rattle.accident.specs.Story.{signer_of, seal_of, signers_in, seals_in, certified_answer, certified_buffer, certificate_of, HasTaken, Each}
+use Rattle.accident.specs.declared.FourBoxes.{FourBoxes}
+use Rattle.accident.specs.declared.boxes.Votes.{Votes}
 
 signer_some : (k : ℕ) (o : Option ℕ) → is_some o ≡ true → signer_of k o ≡ record { number = k; size = 2 } ∷ []
 signer_some k None h = let z : ◌≡◌ {A = ℕ} 0 1 = cc in absurd (omega arith)
@@ -59,22 +56,13 @@ buffer_kept boxes d ss seals out r e = rw (sym e)
 
 -- what is read of the buffer is the certificate
 pub certificate_read :
-    (offer : Offer) (votes : List (Option ℕ)) (bytes : List ℕ) (n : ℕ) → Ok n ≡ certified_answer offer votes (replicate 256 0)
-    → bytes ≡ certified_buffer offer votes (replicate 256 0) → take (n - 0) bytes ≡ certificate_of offer votes
-certificate_read offer votes bytes n e b =
+    (v : Votes) (bytes : List ℕ) (n : ℕ) → Ok n ≡ certified_answer v (replicate 256 0) → bytes ≡ certified_buffer v (replicate 256 0) → take (n - 0) bytes ≡ certificate_of v
+certificate_read v bytes n e b =
     let z : n - 0 ≡ n = omega arith in
-    ap (λ m. take m bytes) z ∙ (ap (take n) b ∙ ap (λ r. if_ok r (λ m. take m (certified_buffer offer votes (replicate 256 0))) []) e)
+    ap (λ m. take m bytes) z ∙ (ap (take n) b ∙ ap (λ r. if_ok r (λ m. take m (certified_buffer v (replicate 256 0))) []) e)
 
-taken_same :
-    {C : Type 0} (good : C → ℕ → List ℕ → List ℕ → Bool) (bytes bytes' : List ℕ) (b after : ReadyBox PalletBook C TableStore) → bytes ≡ bytes'
-    → HasTaken good bytes b after → HasTaken good bytes' b after
-taken_same good bytes bytes' b after e h = record {
-  stand = h.stand ∙ ap (took (good b.cold.checker) (stand_of b)) e;
-  checker = h.checker;
-}
-
-pub made_taken :
-    {C T E : Type 0} (r : Result T E) (good : C → ℕ → List ℕ → List ℕ → Bool) (bytes bytes' : List ℕ) (b after : ReadyBox PalletBook C TableStore) → bytes ≡ bytes'
-    → IfOk r (λ _. HasTaken good bytes b after) → IfOk r (λ _. HasTaken good bytes' b after)
-made_taken r good bytes bytes' b after e =
-    IfOk-weaker r (λ _. HasTaken good bytes b after) (λ _. HasTaken good bytes' b after) (λ _. taken_same good bytes bytes' b after e)
+-- the same certificate, by another name
+pub all_taken :
+    {C T E : Type 0} (r : Result T E) (good : C → ℕ → List ℕ → List ℕ → Bool) (bytes bytes' : List ℕ) (b after : FourBoxes C) → bytes ≡ bytes'
+    → IfOk r (λ _. Each (HasTaken good bytes) b after) → IfOk r (λ _. Each (HasTaken good bytes') b after)
+all_taken r good bytes bytes' b after e h = subst (λ x. IfOk r (λ _. Each (HasTaken good x) b after)) e h

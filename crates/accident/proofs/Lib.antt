@@ -1,3 +1,4 @@
 mod Certificates
+mod Reports
 mod Rolls
 mod Stands

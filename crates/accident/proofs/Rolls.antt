@@ -1,5 +1,5 @@
 -- The roll of the seals: its entries, and the search for one. Assumes nothing.
-use Rattle.std.proofs.Common.{◌≡◌, ℕ, zero, suc, ◌+◌, ◌<◌, ◌≤◌, Bool, true, false, cond, ◌&&◌, eqb, List, ◌++◌, length, get_or, take, drop, Some, None, Ok, Err, Decides, Result, sym, refl, ap, ◌∙◌, inl, inr, add-one, arith}
+use Rattle.std.proofs.Common.{◌≡◌, ℕ, ◌+◌, ◌<◌, Bool, true, cond, ◌&&◌, eqb, List, ◌++◌, length, get_or, take, drop, Some, None, Ok, Err, Decides, Result, sym, ap, ◌∙◌, inl, inr, add-one, arith}
 use Rattle.std.specs.List.{between}
 use Rattle.std.specs.Result.{OkIff, result_ok}
 use Rattle.std.specs.Str.{bytes_eq}
@@ -8,29 +8,18 @@ use Rattle.std.proofs.lemmas.List.{append_assoc, length-take, take_all}
 use Rattle.std.proofs.lemmas.Bool.{eq-eqb, lt-ltb, le-ltb, cases_lt}
 use Rattle.std.proofs.lemmas.Bool.Decides.{same_from_decides}
 use Rattle.docket.specs.declared.Docket.{Docket}
-use Rattle.seals.specs.Roll.{is_of, entry_at}
-use Rattle.accident.specs.Story.{box_entry, box_entries, first_of, in_byte}
+use Rattle.seals.specs.Roll.{is_of}
+use Rattle.workbench.specs.Bench.{roll_entry}
+use Rattle.accident.specs.Story.{box_entries, in_byte}
 
 -- one box more
 pub boxes_more :
-    (was before after entry : List ℕ) (k : ℕ) (d : Docket) → before ≡ was ++ box_entries k d → after ≡ before ++ entry → entry ≡ box_entry k d
+    (was before after entry : List ℕ) (k : ℕ) (d : Docket) → before ≡ was ++ box_entries k d → after ≡ before ++ entry → entry ≡ roll_entry k d
     → after ≡ was ++ box_entries (k + 1) d
 boxes_more was before after entry k d b a e =
-    let r : box_entries (k + 1) d ≡ box_entries k d ++ box_entry k d = ap (λ n. box_entries n d) (add-one k) in
-    let s : (was ++ box_entries k d) ++ box_entry k d ≡ was ++ (box_entries k d ++ box_entry k d) = append_assoc was (box_entries k d) (box_entry k d) in
+    let r : box_entries (k + 1) d ≡ box_entries k d ++ roll_entry k d = ap (λ n. box_entries n d) (add-one k) in
+    let s : (was ++ box_entries k d) ++ roll_entry k d ≡ was ++ (box_entries k d ++ roll_entry k d) = append_assoc was (box_entries k d) (roll_entry k d) in
     cc
-
-module _ (roll : List ℕ) (party : ℕ) (text : List ℕ) where
-  pub first_here : (n at : ℕ) → 0 < n → true ≡ is_of (entry_at at roll) party text → first_of n at roll party text ≡ Some at
-  first_here zero at h e = absurd (omega arith)
-  first_here (suc n) at h e = ap (λ b. cond b (Some at) (first_of n (at + 1) roll party text)) (sym e)
-
-  pub first_later : (n m at : ℕ) → n ≡ suc m → false ≡ is_of (entry_at at roll) party text → first_of n at roll party text ≡ first_of m (at + 1) roll party text
-  first_later n m at h e = ap (λ k. first_of k at roll party text) h ∙ ap (λ b. cond b (Some at) (first_of m (at + 1) roll party text)) (sym e)
-
-  pub first_none : (n at : ℕ) → n ≤ 0 → first_of n at roll party text ≡ None
-  first_none zero at h = refl
-  first_none (suc n) at h = absurd (omega arith)
 
 -- an entry of the party and of 82 bytes is of the text if its bytes are
 pub of_text :

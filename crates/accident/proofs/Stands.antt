@@ -12,8 +12,9 @@ use Rattle.ready.specs.declared.state.ReadyBox.{ReadyBox}
 use Rattle.marks.specs.declared.table.TableStore.{TableStore}
 use Rattle.marks.specs.Outcomes.{End, ends}
 use Rattle.marks.specs.declared.outcome.Outcome.{Outcome}
-use Rattle.accident.specs.Story.{Stand, opening_balances, started, restarted, slip_over, asked, text_for, gathered, stand_of, voted, cut_in_hand, voted_late, IsAt, WasAsked, voted_by}
+use Rattle.accident.specs.Story.{Stand, opening_balances, started, restarted, slip_over, asked, text_for, votes_after, stand_of, voted, cut_in_hand, voted_late, IsAt, WasAsked, voted_by}
 use Rattle.accident.specs.declared.dockets.Offer.{Offer}
+use Rattle.accident.specs.declared.boxes.Votes.{Votes}
 
 yes_since : {T E : Type 0} (t : Bool) (x y : T) (e : E) → Ok y ≡ cond t (Ok x) (Err e) → (t ≡ true) × (y ≡ x)
 yes_since true x y e h = (refl, cc)
@@ -42,21 +43,19 @@ stands_started number owner row opening b mark coming s o w m r =
     let e : b ≡ started_box 7 number 1 opening_balances = cc in
     λ i. record { box = e i; store = record { owner = w i; mark = fun_ext m i; row = r i } }
 
-module _ (roll : List ℕ) (number : ℕ) (seals : List (Option ℕ)) where
+module _ (number : ℕ) (v : Votes) where
   -- a text released by a box, by another name of where it stands
-  pub gathered_same :
-      (then : List (Option ℕ)) (slip : SlipState) (s t : Stand) → then ≡ gathered roll number seals (text_for s slip) → s ≡ t
-      → then ≡ gathered roll number seals (text_for t slip)
-  gathered_same then slip s t h e = h ∙ ap (λ x. gathered roll number seals (text_for x slip)) e
+  pub after_same : (then : Votes) (slip : SlipState) (s t : Stand) → then ≡ votes_after number v (text_for s slip) → s ≡ t → then ≡ votes_after number v (text_for t slip)
+  after_same then slip s t h e = h ∙ ap (λ x. votes_after number v (text_for x slip)) e
 
   -- a box that made a slip
   pub voted_late_lem :
-      (good : ℕ → List ℕ → List ℕ → Bool) (s after : Stand) (offer : Offer) (slip : SlipState) (then : List (Option ℕ))
-      → Ok slip ≡ slip_over good s offer → after ≡ asked good s offer → then ≡ gathered roll number seals (text_for (restarted after) slip)
-      → then ≡ voted_late good roll number s offer seals
-  voted_late_lem good s after offer slip then e a h =
-      h ∙ (ap (λ x. gathered roll number seals (text_for (restarted x) slip)) a
-      ∙ ap (λ x. gathered roll number seals (and_then x (text_for (restarted (asked good s offer))))) e)
+      (good : ℕ → List ℕ → List ℕ → Bool) (s after : Stand) (slip : SlipState) (then : Votes)
+      → Ok slip ≡ slip_over good s v.offer → after ≡ asked good s v.offer → then ≡ votes_after number v (text_for (restarted after) slip)
+      → then ≡ voted_late good number s v
+  voted_late_lem good s after slip then e a h =
+      h ∙ (ap (λ x. votes_after number v (text_for (restarted x) slip)) a
+      ∙ ap (λ x. votes_after number v (and_then x (text_for (restarted (asked good s v.offer))))) e)
 
 pub cut_in_hand_lem :
     (good : ℕ → List ℕ → List ℕ → Bool) (s after : Stand) (offer : Offer) (slip : SlipState) → Ok slip ≡ slip_over good s offer → after ≡ asked good s offer
@@ -93,13 +92,13 @@ module _ {C : Type 0} (good : C → ℕ → List ℕ → List ℕ → Bool) (off
     judge = k ∙ f;
   }
 
-  module _ (roll : List ℕ) (number : ℕ) (seals seals' then : List (Option ℕ)) (before : seals ≡ seals') where
-    pub voted_at : then ≡ voted_by good roll number b offer seals → then ≡ voted (good checker) roll number s offer seals'
+  module _ (number : ℕ) (v v' then : Votes) (before : v ≡ v') where
+    pub voted_at : then ≡ voted_by good number b v → then ≡ voted (good checker) number s v'
     voted_at h =
-        h ∙ (ap (λ x. voted (good x) roll number (stand_of b) offer seals) f
-        ∙ (ap (λ x. voted (good checker) roll number x offer seals) e ∙ ap (voted (good checker) roll number s offer) before))
+        h ∙ (ap (λ x. voted (good x) number (stand_of b) v) f
+        ∙ (ap (λ x. voted (good checker) number x v) e ∙ ap (voted (good checker) number s) before))
 
-    pub voted_late_at : then ≡ voted_late (good b.cold.checker) roll number (stand_of b) offer seals → then ≡ voted_late (good checker) roll number s offer seals'
+    pub voted_late_at : then ≡ voted_late (good b.cold.checker) number (stand_of b) v → then ≡ voted_late (good checker) number s v'
     voted_late_at h =
-        h ∙ (ap (λ x. voted_late (good x) roll number (stand_of b) offer seals) f
-        ∙ (ap (λ x. voted_late (good checker) roll number x offer seals) e ∙ ap (voted_late (good checker) roll number s offer) before))
+        h ∙ (ap (λ x. voted_late (good x) number (stand_of b) v) f
+        ∙ (ap (λ x. voted_late (good checker) number x v) e ∙ ap (voted_late (good checker) number s) before))

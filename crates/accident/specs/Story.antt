@@ -1,10 +1,11 @@
 -- The story: two dockets under one number, the seals over them, and the boxes that they are handed to.
-use Rattle.std.specs.Prelude.{◌≡◌, ℕ, zero, suc, ◌+◌, ◌/◌, Bool, cond, List, [], ◌∷◌, ◌++◌, map, length, take, replicate, Some, None, Ok, Err, Option, Result, nat_lt, slice_index_or, slice_set}
+use Rattle.std.specs.Prelude.{◌≡◌, ℕ, zero, suc, ◌/◌, Bool, cond, List, [], ◌∷◌, ◌++◌, map, length, take, replicate, position, All, Some, None, Ok, Err, Option, Result, nat_lt, slice_index_or, slice_set}
+use Rattle.std.specs.Simd.{first_chunks}
 use Rattle.refusals.specs.Reading.{Reading, and_then, if_ok}
 use Rattle.docket.specs.declared.Docket.{Docket}
 use Rattle.docket.specs.Layout.{encoded}
-use Rattle.seals.specs.Roll.{is_of, entry_at}
-use Rattle.seals.specs.Texts.{box_party, countersign_text}
+use Rattle.seals.specs.Roll.{is_of}
+use Rattle.seals.specs.Texts.{box_party}
 use Rattle.certificate.specs.Layout.{write_answer, write_buffer}
 use Rattle.certificate.specs.declared.table.Signer.{Signer}
 use Rattle.marks.specs.Outcomes.{ends}
@@ -18,52 +19,45 @@ use Rattle.settlement.specs.Box.{BoxState, box_of, started_box, restart_box, tak
 use Rattle.pool.specs.Ready.{StoreState, SlipState, Finding, finding, slip_after, store_after, box_after, released_text}
 use Rattle.ready.specs.Seen.{store_of}
 use Rattle.ready.specs.declared.state.ReadyBox.{ReadyBox}
+use Rattle.workbench.specs.Bench.{only_docket, roll_entry}
 use Rattle.accident.specs.declared.dockets.Offer.{Offer}
+use Rattle.accident.specs.declared.boxes.Votes.{Votes}
+use Rattle.accident.specs.declared.FourBoxes.{FourBoxes}
 use Rattle.accident.specs.declared.Report.{Report}
 
 -- the docket of number 1 that moves all 480 pallets from account 0
 abbrev pub all_pallets : ℕ → Docket
-all_pallets to = record {
-  pool = 7;
-  account = 0;
-  count = 1;
-  number = 1;
-  lines = (1 ∷ to ∷ replicate 12 0 ++ (1 ∷ 224 ∷ [])) ∷ replicate 16 0 ∷ replicate 16 0 ∷ replicate 16 0 ∷ [];
-}
+all_pallets to = only_docket 0 to 480
 
 -- account 0 opens with all pallets
 abbrev pub opening_balances : List ℕ
 opening_balances = 480 ∷ replicate 63 0
 
--- roll entries: a yard sealed a docket of its account, and a box one
+-- a roll entry: a yard sealed a docket of its account
 abbrev pub yard_entry : Docket → List ℕ
 yard_entry d = d.account ∷ 80 ∷ encoded d ++ (0 ∷ 0 ∷ [])
-
-abbrev pub box_entry : ℕ → Docket → List ℕ
-box_entry number d = box_party number ∷ 82 ∷ countersign_text number (encoded d)
 
 -- boxes from 0 on, as many as are said, over one docket
 abbrev pub box_entries : ℕ → Docket → List ℕ
 box_entries zero d = []
-box_entries (suc k) d = box_entries k d ++ box_entry k d
+box_entries (suc k) d = box_entries k d ++ roll_entry k d
 
 -- the yard over both dockets, then four boxes over the first, and over the second
 abbrev pub story_roll : Docket → Docket → List ℕ
 story_roll first second = ((yard_entry first ++ yard_entry second) ++ box_entries 4 first) ++ box_entries 4 second
 
--- the first of `count` entries, from entry `at` on, that is of this party and text
-abbrev pub first_of : ℕ → ℕ → List ℕ → ℕ → List ℕ → Option ℕ
-first_of zero at roll party text = None
-first_of (suc count) at roll party text = cond (is_of (entry_at at roll) party text) (Some at) (first_of count (at + 1) roll party text)
+-- the index of a box's first entry over a text
+abbrev pub first_over : List ℕ → ℕ → List ℕ → Option ℕ
+first_over roll number text = position (λ entry. is_of entry (box_party number) text) (first_chunks 84 (length roll / 84) roll)
 
 -- an index that fits a byte
 abbrev pub in_byte : Option ℕ → Option ℕ
 in_byte None = None
 in_byte (Some index) = cond (nat_lt index 256) (Some index) None
 
--- the index of a box's first entry over a text
+-- the same, if it fits a byte
 abbrev pub seal_over : List ℕ → ℕ → List ℕ → Option ℕ
-seal_over roll number text = in_byte (first_of (length roll / 84) 0 roll (box_party number) text)
+seal_over roll number text = in_byte (first_over roll number text)
 
 -- a box of the story with its store, as its calls see both
 pub record Stand : Type 0 where
@@ -114,15 +108,22 @@ gathered roll number seals (Err r) = seals
 abbrev pub answered : (ℕ → List ℕ → List ℕ → Bool) → Stand → Offer → Result (List ℕ) Reading
 answered good s offer = and_then (slip_over good s offer) (text_for (asked good s offer))
 
-abbrev pub voted : (ℕ → List ℕ → List ℕ → Bool) → List ℕ → ℕ → Stand → Offer → List (Option ℕ) → List (Option ℕ)
-voted good roll number s offer seals = gathered roll number seals (answered good s offer)
+-- the votes with other seals, and those after a box has released a text or refused
+abbrev pub with_seals : Votes → List (Option ℕ) → Votes
+with_seals v seals = record { offer = v.offer; roll = v.roll; seals = seals }
+
+abbrev pub votes_after : ℕ → Votes → Result (List ℕ) Reading → Votes
+votes_after number v text = with_seals v (gathered v.roll.now number v.seals text)
+
+abbrev pub voted : (ℕ → List ℕ → List ℕ → Bool) → ℕ → Stand → Votes → Votes
+voted good number s v = votes_after number v (answered good s v.offer)
 
 -- the same of a box that is cut with a slip in hand, and releases it after it has come back
 abbrev pub cut_in_hand : (ℕ → List ℕ → List ℕ → Bool) → Stand → Offer → Stand
 cut_in_hand good s offer = if_ok (slip_over good s offer) (λ _. restarted (asked good s offer)) (asked good s offer)
 
-abbrev pub voted_late : (ℕ → List ℕ → List ℕ → Bool) → List ℕ → ℕ → Stand → Offer → List (Option ℕ) → List (Option ℕ)
-voted_late good roll number s offer seals = gathered roll number seals (and_then (slip_over good s offer) (text_for (restarted (asked good s offer))))
+abbrev pub voted_late : (ℕ → List ℕ → List ℕ → Bool) → ℕ → Stand → Votes → Votes
+voted_late good number s v = votes_after number v (and_then (slip_over good s v.offer) (text_for (restarted (asked good s v.offer))))
 
 -- the signers and the seals of the first `count` boxes, of those that have sealed
 abbrev pub signer_of : ℕ → Option ℕ → List Signer
@@ -141,17 +142,16 @@ abbrev pub seals_in : ℕ → List (Option ℕ) → List ℕ
 seals_in zero seals = []
 seals_in (suc k) seals = seals_in k seals ++ seal_of (slice_index_or seals k None)
 
--- the certificate that the votes for an offer make: its length or the refusal, and the buffer then
-abbrev pub certified_answer : Offer → List (Option ℕ) → List ℕ → Result ℕ Reading
-certified_answer offer seals out = write_answer 4 offer.docket (signers_in 4 seals) (seals_in 4 seals) out
+-- the certificate that the votes make: its length or the refusal, and the buffer then
+abbrev pub certified_answer : Votes → List ℕ → Result ℕ Reading
+certified_answer v out = write_answer 4 v.offer.docket (signers_in 4 v.seals) (seals_in 4 v.seals) out
 
-abbrev pub certified_buffer : Offer → List (Option ℕ) → List ℕ → List ℕ
-certified_buffer offer seals out = write_buffer 4 offer.docket (signers_in 4 seals) (seals_in 4 seals) out
+abbrev pub certified_buffer : Votes → List ℕ → List ℕ
+certified_buffer v out = write_buffer 4 v.offer.docket (signers_in 4 v.seals) (seals_in 4 v.seals) out
 
 -- its bytes
-abbrev pub certificate_of : Offer → List (Option ℕ) → List ℕ
-certificate_of offer seals =
-    if_ok (certified_answer offer seals (replicate 256 0)) (λ n. take n (certified_buffer offer seals (replicate 256 0))) []
+abbrev pub certificate_of : Votes → List ℕ
+certificate_of v = if_ok (certified_answer v (replicate 256 0)) (λ n. take n (certified_buffer v (replicate 256 0))) []
 
 -- a certificate is taken
 abbrev pub took : (ℕ → List ℕ → List ℕ → Bool) → Stand → List ℕ → Stand
@@ -160,19 +160,17 @@ took good s bytes = record { box = take_box pallet_valid pallet_next good s.box 
 -- what a box reports
 abbrev pub report_of : Stand → Report
 report_of s = record {
-  first = pallet_answer s.box.current 0;
-  second = pallet_answer s.box.current 1;
-  third = pallet_answer s.box.current 2;
+  balances = map (pallet_answer s.box.current) (0 ∷ 1 ∷ 2 ∷ []);
   next = next_number s.box 0;
 }
 
 -- the votes for the first docket: those of boxes 0, 1 and 3, and then of box 2, which is cut with its slip in hand
-abbrev pub voted_at_cut : (ℕ → List ℕ → List ℕ → Bool) → List ℕ → Offer → List (Option ℕ) → List (Option ℕ)
-voted_at_cut good roll offer seals =
-    voted_late good roll 2 (started 2 []) offer
-    (voted good roll 3 (started 3 []) offer
-    (voted good roll 1 (started 1 (FailsNew ∷ [])) offer
-    (voted good roll 0 (started 0 (FailsOld ∷ [])) offer seals)))
+abbrev pub voted_at_cut : (ℕ → List ℕ → List ℕ → Bool) → Votes → Votes
+voted_at_cut good v =
+    voted_late good 2 (started 2 [])
+    (voted good 3 (started 3 [])
+    (voted good 1 (started 1 (FailsNew ∷ []))
+    (voted good 0 (started 0 (FailsOld ∷ [])) v)))
 
 -- a ready box stands so, with this checker
 pub record IsAt {C : Type 0} (s : Stand) (checker : C) (b : ReadyBox PalletBook C TableStore) : Type 0 where
@@ -188,11 +186,34 @@ pub record HasTaken {C : Type 0} (good : C → ℕ → List ℕ → List ℕ →
   pub stand : stand_of after ≡ took (good b.cold.checker) (stand_of b) bytes
   pub checker : after.cold.checker ≡ b.cold.checker
 
--- the votes of a ready box that is asked
-abbrev pub voted_by : {C : Type 0} → (C → ℕ → List ℕ → List ℕ → Bool) → List ℕ → ℕ → ReadyBox PalletBook C TableStore → Offer → List (Option ℕ) → List (Option ℕ)
-voted_by good roll number b offer seals = voted (good b.cold.checker) roll number (stand_of b) offer seals
+-- the votes after a ready box was asked
+abbrev pub voted_by : {C : Type 0} → (C → ℕ → List ℕ → List ℕ → Bool) → ℕ → ReadyBox PalletBook C TableStore → Votes → Votes
+voted_by good number b v = voted (good b.cold.checker) number (stand_of b) v
 
--- four reports: the one that all are, or none where they differ
-abbrev pub Agreed : Report → Report → Report → Report → Option Report → Type 0
-Agreed p q r s None = (q ≡ p) × (r ≡ p) × (s ≡ p) → ⊥
-Agreed p q r s (Some t) = (p ≡ t) × (q ≡ t) × (r ≡ t) × (s ≡ t)
+-- the votes after all four were asked, in their order
+abbrev pub voted_by_all : {C : Type 0} → (C → ℕ → List ℕ → List ℕ → Bool) → FourBoxes C → Votes → Votes
+voted_by_all good b v = voted_by good 3 b.fourth (voted_by good 2 b.third (voted_by good 1 b.second (voted_by good 0 b.first v)))
+
+-- each of the four boxes, before and after, keeps to this
+pub record Each {C : Type 0} (R : ReadyBox PalletBook C TableStore → ReadyBox PalletBook C TableStore → Type 0) (b after : FourBoxes C) : Type 0 where
+  pub first : R b.first after.first
+  pub second : R b.second after.second
+  pub third : R b.third after.third
+  pub fourth : R b.fourth after.fourth
+
+-- after power was cut at all four: box 0 in the middle of a write that did not stand, box 1 of one that did, box 2 with
+-- a slip in hand, and box 3 at rest
+pub record WereCut {C : Type 0} (good : C → ℕ → List ℕ → List ℕ → Bool) (checker : C) (offer : Offer) (b : FourBoxes C) : Type 0 where
+  pub first : IsAt (restarted (asked (good checker) (started 0 (FailsOld ∷ [])) offer)) checker b.first
+  pub second : IsAt (restarted (asked (good checker) (started 1 (FailsNew ∷ [])) offer)) checker b.second
+  pub third : IsAt (cut_in_hand (good checker) (started 2 []) offer) checker b.third
+  pub fourth : IsAt (restarted (asked (good checker) (started 3 []) offer)) checker b.fourth
+
+-- what all four report
+abbrev pub reports_of : {C : Type 0} → FourBoxes C → List Report
+reports_of b = report_of (stand_of b.first) ∷ report_of (stand_of b.second) ∷ report_of (stand_of b.third) ∷ report_of (stand_of b.fourth) ∷ []
+
+-- the one that all reports are, or none where they differ
+abbrev pub Agreed : List Report → Option Report → Type 0
+Agreed reports None = (t : Report) → All (λ r. r ≡ t) reports → ⊥
+Agreed reports (Some t) = All (λ r. r ≡ t) reports

@@ -1,7 +1,7 @@
 // What the program does with a box: setting it up, cutting its power, and asking it to countersign.
 ghost use Rattle.std.specs.Prelude.{◌≡◌, ◌&&◌, length, replicate, is_ok, IfOk, Some, None, nat_le, nat_lt};
 ghost use Rattle.ready.specs.Seen.{slip_of};
-ghost use Rattle.accident.specs.Story.{stand_of, started, restarted, text_for, counted_in, gathered, WasAsked, voted_by};
+ghost use Rattle.accident.specs.Story.{stand_of, started, restarted, text_for, votes_after, WasAsked, voted_by};
 
 use crate::dockets::{Offer, opening, seal_over};
 use crate::telling::{tell_deed, tell_refusal};
@@ -12,24 +12,34 @@ use ready::{ReadyBox, Slip};
 use seals::Checker;
 use settlement::ColdBox;
 
-// The countersigns that a yard has gathered for a docket: the index of each box's seal.
+// The countersigns that a yard gathers for an offer: the index of each box's seal in the roll.
 #[derive(Clone, Copy)]
-pub struct Votes {
+pub struct Votes<'a> {
+    pub offer: Offer,
+    pub roll: &'a [u8],
     pub seals: [Option<u8>; 4],
 }
 
-impl Votes {
-    pub fn new() -> Votes
-        ensures { result.seals ≡ replicate 4 None }
+impl<'a> Votes<'a> {
+    ghost use Rattle.accident.specs.Story.{counted_in, with_seals};
+
+    pub fn new(offer: Offer, roll: &'a [u8]) -> Votes<'a>
+        ensures offer { result.offer ≡ offer }
+        ensures roll { result.roll.now ≡ roll.now }
+        ensures seals { result.seals ≡ replicate 4 None }
     {
-        Votes { seals: [None; 4] }
+        Votes {
+            offer,
+            roll,
+            seals: [None; 4],
+        }
     }
 
     // Puts down the seal of one of boxes 0 to 3.
     fn gather(&mut self, number: u8, seal: u8)
-        ensures { self.new.seals ≡ counted_in self.old.seals number (Some seal) }
+        ensures { self.new ≡ with_seals self.old (counted_in self.old.seals number (Some seal)) }
     {
-        let at = number as usize;
+        let at = usize::from(number);
         if at < 4 {
             self.seals[at] = Some(seal);
         }
@@ -73,23 +83,21 @@ pub fn give_out<C: Checker>(
     rt: &HostRuntime,
     number: u8,
     ready: &mut ReadyBox<PalletBook, C, TableStore>,
-    name: char,
     slip: Slip,
-    roll: &[u8],
     votes: &mut Votes,
 ) -> anyhow::Result<()>
     ensures unchanged { ready.new ≡ ready.old }
-    ensures votes { votes.new.seals ≡ gathered roll.now number votes.old.seals (text_for (stand_of ready.old) (slip_of slip)) }
+    ensures votes { votes.new ≡ votes_after number votes.old (text_for (stand_of ready.old) (slip_of slip)) }
 {
     let mut text = [0u8; 82];
     if let Err(fault) = ready.release(slip, &mut text) {
         return tell_refusal(rt, number, fault);
     }
-    let Some(seal) = seal_over(roll, number, &text) else {
+    let Some(seal) = seal_over(votes.roll, number, &text) else {
         return Err(anyhow!("a text that nobody has sealed"));
     };
     votes.gather(number, seal);
-    tell_deed(rt, number, "countersigns", name)
+    tell_deed(rt, number, "countersigns", votes.offer.name)
 }
 
 // Asks a box to countersign a docket, and to release the countersign at once.
@@ -97,15 +105,13 @@ pub fn ask_for<C: Checker>(
     rt: &HostRuntime,
     number: u8,
     ready: &mut ReadyBox<PalletBook, C, TableStore>,
-    offer: &Offer,
-    roll: &[u8],
     votes: &mut Votes,
 ) -> anyhow::Result<()>
-    ensures asked { WasAsked C.good offer.now ready.old ready.new }
-    ensures votes { votes.new.seals ≡ voted_by C.good roll.now number ready.old offer.now votes.old.seals }
+    ensures asked { WasAsked C.good votes.old.offer ready.old ready.new }
+    ensures votes { votes.new ≡ voted_by C.good number ready.old votes.old }
 {
-    match ready.countersign(&offer.docket.to_bytes(), &[0, offer.seal]) {
-        Ok(slip) => give_out(rt, number, ready, offer.name, slip, roll, votes),
+    match ready.countersign(&votes.offer.docket.to_bytes(), &[0, votes.offer.seal]) {
+        Ok(slip) => give_out(rt, number, ready, slip, votes),
         Err(fault) => tell_refusal(rt, number, fault),
     }
 }

@@ -1,13 +1,13 @@
 // The two dockets of the story, and the roll of the seals over them.
-ghost use Rattle.std.specs.Prelude.{◌≡◌, ◌<◌, ◌++◌, length, IfOk, OnOk};
+ghost use Rattle.std.specs.Prelude.{◌≡◌, ◌++◌, IfOk, OnOk};
 ghost use Rattle.seals.specs.Roll.{is_of};
 ghost use Rattle.seals.specs.Texts.{box_party};
-ghost use Rattle.accident.specs.Story.{all_pallets, opening_balances, yard_entry, box_entry, box_entries, story_roll, seal_over};
+ghost use Rattle.accident.specs.Story.{all_pallets, opening_balances, yard_entry, box_entries, story_roll, first_over, seal_over};
 
 use book::PalletBook;
 use docket::Docket;
-use seals::countersign_text;
 use std::alloc::{AllocError, Global};
+use workbench::bench::{only_docket, roll_entry};
 
 // A docket under the number 1 of account 0, with its name, and the index of its yard's seal.
 #[derive(Clone, Copy)]
@@ -21,20 +21,11 @@ pub struct Offer {
 pub fn offer_to(name: char, to: u8, seal: u8) -> Offer
     ensures { result ≡ record { name = name; docket = all_pallets to; seal = seal } }
 {
-    let blank = [0u8; 16];
-    let docket = Docket {
-        pool: 7,
-        account: 0,
-        count: 1,
-        number: 1,
-        lines: [
-            [1, to, 0, 0, 0, 0, 0, 0, 0, 0, 0, 0, 0, 0, 1, 224],
-            blank,
-            blank,
-            blank,
-        ],
-    };
-    Offer { name, docket, seal }
+    Offer {
+        name,
+        docket: only_docket(0, to, 480),
+        seal,
+    }
 }
 
 // The book that every box starts from: account 0 has 480 pallets.
@@ -51,7 +42,7 @@ pub fn opening() -> PalletBook
     book
 }
 
-// A roll entry of a yard, and of a box.
+// A roll entry of a yard.
 fn of_yard(docket: &Docket) -> [u8; 84]
     ensures { result ≡ yard_entry docket.now }
 {
@@ -62,23 +53,12 @@ fn of_yard(docket: &Docket) -> [u8; 84]
     entry
 }
 
-fn of_box(number: u8, docket: &Docket) -> [u8; 84]
-    requires { number < 4 }
-    ensures { result ≡ box_entry number docket.now }
-{
-    let mut entry = [0u8; 84];
-    entry[0] = 64 + number;
-    entry[1] = 82;
-    entry[2..84].copy_from_slice(&countersign_text(number, &docket.to_bytes()));
-    entry
-}
-
 // Adds the entries of boxes 0 to 3 over a docket.
 fn add_boxes(bytes: &mut Vec<u8>, docket: &Docket) -> Result<(), AllocError>
     ensures { OnOk result (bytes.new.items ≡ bytes.old.items ++ box_entries 4 docket.now) }
 {
     for number in 0..4u8 {
-        bytes.extend_from_slice(&of_box(number, docket))?;
+        bytes.extend_from_slice(&roll_entry(number, docket))?;
     }
     Ok(())
 }
@@ -97,27 +77,26 @@ pub fn roll(heap: Global, first: &Docket, second: &Docket) -> Result<Vec<u8>, Al
 }
 
 // An entry is of a box and of a text of its.
-fn is_of(entry: &[u8], number: u8, text: &[u8; 82]) -> bool
-    requires { length entry.now ≡ 84 }
+fn is_of(entry: &[u8; 84], number: u8, text: &[u8; 82]) -> bool
     ensures { result ≡ is_of entry.now (box_party number) text.now }
 {
-    if u16::from(entry[0]) != 64 + u16::from(number) {
-        return false;
-    }
-    if entry[1] != 82 {
-        return false;
-    }
-    text.as_slice() == &entry[2..84]
+    u16::from(entry[0]) == 64 + u16::from(number)
+        && entry[1] == 82
+        && text.as_slice() == &entry[2..]
+}
+
+// The index of the first entry of a box over a text.
+fn first_over(roll: &[u8], number: u8, text: &[u8; 82]) -> Option<usize>
+    ensures { result ≡ first_over roll.now number text.now }
+{
+    let (entries, _) = roll.as_chunks::<84>();
+    entries.iter().position(|entry| is_of(entry, number, text))
 }
 
 // A box's seal over a text that it has released: the index of its entry, if it fits a byte.
 pub fn seal_over(roll: &[u8], number: u8, text: &[u8; 82]) -> Option<u8>
     ensures { result ≡ seal_over roll.now number text.now }
 {
-    for index in 0..roll.len() / 84 {
-        if is_of(&roll[index * 84..index * 84 + 84], number, text) {
-            return u8::try_from(index).ok();
-        }
-    }
-    None
+    let index = first_over(roll, number, text)?;
+    u8::try_from(index).ok()
 }

@@ -6,14 +6,13 @@ mod boxes;
 mod dockets;
 mod telling;
 
-ghost use Rattle.std.specs.Prelude.{◌≡◌, [], ◌∷◌, take, IfOk, Ok, OnErr, OnOk};
-ghost use Rattle.marks.specs.declared.outcome.Outcome.TheVariants.{FailsOld, FailsNew};
+ghost use Rattle.std.specs.Prelude.{◌≡◌, take, IfOk, Ok, OnErr, OnOk};
 ghost use Rattle.certificate.specs.Layout.{read_certificate, contents_of};
 ghost use Rattle.ready.specs.Seen.{slip_of};
-ghost use Rattle.accident.specs.Story.{stand_of, started, restarted, asked, text_for, gathered, voted, cut_in_hand, voted_late, voted_at_cut, signers_in, seals_in, certified_answer, certified_buffer, certificate_of, report_of, IsAt, WasAsked, HasTaken, voted_by, Agreed};
+ghost use Rattle.accident.specs.Story.{stand_of, started, restarted, asked, text_for, votes_after, voted, cut_in_hand, voted_late, voted_at_cut, signers_in, seals_in, certified_answer, certified_buffer, certificate_of, report_of, reports_of, IsAt, WasAsked, HasTaken, voted_by_all, Each, WereCut, Agreed};
 
 use crate::boxes::{Votes, ask_for, come_back, give_out, set_up};
-use crate::dockets::{Offer, offer_to, roll};
+use crate::dockets::{offer_to, roll};
 use crate::telling::{say, tell_deed, tell_refusal};
 use anyhow::anyhow;
 use book::{Book, PalletBook};
@@ -35,9 +34,7 @@ struct FourBoxes<C> {
 // What a box reports: the balances of accounts 0 to 2, and the next number of account 0.
 #[derive(Clone, Copy, PartialEq, Eq)]
 struct Report {
-    first: Option<u64>,
-    second: Option<u64>,
-    third: Option<u64>,
+    balances: [Option<u64>; 3],
     next: Option<u64>,
 }
 
@@ -56,18 +53,16 @@ fn release_late<C: Checker + Drop>(
     rt: &HostRuntime,
     number: u8,
     ready: ReadyBox<PalletBook, C, TableStore>,
-    name: char,
     slip: Slip,
-    roll: &[u8],
     votes: &mut Votes,
 ) -> anyhow::Result<ReadyBox<PalletBook, C, TableStore>>
     ensures stand { IfOk result (λ b. stand_of b ≡ restarted (stand_of ready)) }
     ensures checker { IfOk result (λ b. b.cold.checker ≡ ready.cold.checker) }
-    ensures votes { votes.new.seals ≡ gathered roll.now number votes.old.seals (text_for (restarted (stand_of ready)) (slip_of slip)) }
+    ensures votes { votes.new ≡ votes_after number votes.old (text_for (restarted (stand_of ready)) (slip_of slip)) }
 {
-    let told = tell_cut(rt, number, name);
+    let told = tell_cut(rt, number, votes.offer.name);
     let mut back = come_back(ready);
-    give_out(rt, number, &mut back, name, slip, roll, votes)?;
+    give_out(rt, number, &mut back, slip, votes)?;
     told?;
     Ok(back)
 }
@@ -77,16 +72,14 @@ fn cut_with_slip<C: Checker + Drop>(
     rt: &HostRuntime,
     number: u8,
     mut ready: ReadyBox<PalletBook, C, TableStore>,
-    offer: &Offer,
-    roll: &[u8],
     votes: &mut Votes,
 ) -> anyhow::Result<ReadyBox<PalletBook, C, TableStore>>
-    ensures stand { IfOk result (λ b. stand_of b ≡ cut_in_hand (C.good ready.cold.checker) (stand_of ready) offer.now) }
+    ensures stand { IfOk result (λ b. stand_of b ≡ cut_in_hand (C.good ready.cold.checker) (stand_of ready) votes.old.offer) }
     ensures checker { IfOk result (λ b. b.cold.checker ≡ ready.cold.checker) }
-    ensures votes { votes.new.seals ≡ voted_late (C.good ready.cold.checker) roll.now number (stand_of ready) offer.now votes.old.seals }
+    ensures votes { votes.new ≡ voted_late (C.good ready.cold.checker) number (stand_of ready) votes.old }
 {
-    match ready.countersign(&offer.docket.to_bytes(), &[0, offer.seal]) {
-        Ok(slip) => release_late(rt, number, ready, offer.name, slip, roll, votes),
+    match ready.countersign(&votes.offer.docket.to_bytes(), &[0, votes.offer.seal]) {
+        Ok(slip) => release_late(rt, number, ready, slip, votes),
         Err(fault) => {
             tell_refusal(rt, number, fault)?;
             Ok(ready)
@@ -100,15 +93,13 @@ fn cut_at<C: Checker + Drop>(
     number: u8,
     checker: C,
     row: &[Outcome],
-    offer: &Offer,
-    roll: &[u8],
     votes: &mut Votes,
 ) -> anyhow::Result<ReadyBox<PalletBook, C, TableStore>>
-    ensures at { IfOk result (IsAt (restarted (asked (C.good checker) (started number row.now) offer.now)) checker) }
-    ensures votes { OnOk result (votes.new.seals ≡ voted (C.good checker) roll.now number (started number row.now) offer.now votes.old.seals) }
+    ensures at { IfOk result (IsAt (restarted (asked (C.good checker) (started number row.now) votes.old.offer)) checker) }
+    ensures votes { OnOk result (votes.new ≡ voted (C.good checker) number (started number row.now) votes.old) }
 {
     let mut ready = set_up(number, checker, row)?;
-    ask_for(rt, number, &mut ready, offer, roll, votes)?;
+    ask_for(rt, number, &mut ready, votes)?;
     Ok(come_back(ready))
 }
 
@@ -117,24 +108,19 @@ fn cut_at<C: Checker + Drop>(
 fn cut<C: Checker + Copy + Drop>(
     rt: &HostRuntime,
     checker: C,
-    roll: &[u8],
-    offer: &Offer,
     votes: &mut Votes,
 ) -> anyhow::Result<FourBoxes<C>>
-    ensures first { IfOk result (λ b. IsAt (restarted (asked (C.good checker) (started 0 (FailsOld ∷ [])) offer.now)) checker b.first) }
-    ensures second { IfOk result (λ b. IsAt (restarted (asked (C.good checker) (started 1 (FailsNew ∷ [])) offer.now)) checker b.second) }
-    ensures third { IfOk result (λ b. IsAt (cut_in_hand (C.good checker) (started 2 []) offer.now) checker b.third) }
-    ensures fourth { IfOk result (λ b. IsAt (restarted (asked (C.good checker) (started 3 []) offer.now)) checker b.fourth) }
-    ensures votes { OnOk result (votes.new.seals ≡ voted_at_cut (C.good checker) roll.now offer.now votes.old.seals) }
+    ensures cut { IfOk result (WereCut C.good checker votes.old.offer) }
+    ensures votes { OnOk result (votes.new ≡ voted_at_cut (C.good checker) votes.old) }
 {
-    let first = cut_at(rt, 0, checker, &[Outcome::FailsOld], offer, roll, votes)?;
-    let second = cut_at(rt, 1, checker, &[Outcome::FailsNew], offer, roll, votes)?;
-    let fourth = cut_at(rt, 3, checker, &[], offer, roll, votes)?;
+    let first = cut_at(rt, 0, checker, &[Outcome::FailsOld], votes)?;
+    let second = cut_at(rt, 1, checker, &[Outcome::FailsNew], votes)?;
+    let fourth = cut_at(rt, 3, checker, &[], votes)?;
     let third = set_up(2, checker, &[])?;
     Ok(FourBoxes {
         first,
         second,
-        third: cut_with_slip(rt, 2, third, offer, roll, votes)?,
+        third: cut_with_slip(rt, 2, third, votes)?,
         fourth,
     })
 }
@@ -143,20 +129,15 @@ fn cut<C: Checker + Copy + Drop>(
 fn hand_out<C: Checker>(
     rt: &HostRuntime,
     boxes: &mut FourBoxes<C>,
-    offer: &Offer,
-    roll: &[u8],
     votes: &mut Votes,
 ) -> anyhow::Result<()>
-    ensures first { OnOk result (WasAsked C.good offer.now boxes.old.first boxes.new.first) }
-    ensures second { OnOk result (WasAsked C.good offer.now boxes.old.second boxes.new.second) }
-    ensures third { OnOk result (WasAsked C.good offer.now boxes.old.third boxes.new.third) }
-    ensures fourth { OnOk result (WasAsked C.good offer.now boxes.old.fourth boxes.new.fourth) }
-    ensures votes { OnOk result (votes.new.seals ≡ voted_by C.good roll.now 3 boxes.old.fourth offer.now (voted_by C.good roll.now 2 boxes.old.third offer.now (voted_by C.good roll.now 1 boxes.old.second offer.now (voted_by C.good roll.now 0 boxes.old.first offer.now votes.old.seals)))) }
+    ensures asked { OnOk result (Each (WasAsked C.good votes.old.offer) boxes.old boxes.new) }
+    ensures votes { OnOk result (votes.new ≡ voted_by_all C.good boxes.old votes.old) }
 {
-    ask_for(rt, 0, &mut boxes.first, offer, roll, votes)?;
-    ask_for(rt, 1, &mut boxes.second, offer, roll, votes)?;
-    ask_for(rt, 2, &mut boxes.third, offer, roll, votes)?;
-    ask_for(rt, 3, &mut boxes.fourth, offer, roll, votes)?;
+    ask_for(rt, 0, &mut boxes.first, votes)?;
+    ask_for(rt, 1, &mut boxes.second, votes)?;
+    ask_for(rt, 2, &mut boxes.third, votes)?;
+    ask_for(rt, 3, &mut boxes.fourth, votes)?;
     Ok(())
 }
 
@@ -175,9 +156,7 @@ fn hand_in<C: Checker>(
         Err(fault) => tell_refusal(rt, number, fault)?,
     }
     Ok(Report {
-        first: ready.ask(0),
-        second: ready.ask(1),
-        third: ready.ask(2),
+        balances: [0, 1, 2].map(|account| ready.ask(account)),
         next: ready.next_number(0),
     })
 }
@@ -187,9 +166,12 @@ fn signers_in(heap: Global, votes: &Votes) -> Result<Vec<Signer>, AllocError>
     ensures { IfOk result (λ v. v.items ≡ signers_in 4 votes.now.seals) }
 {
     let mut signers = Vec::new(heap);
-    for number in 0..4u8 {
-        if votes.seals[number as usize].is_some() {
-            signers.push(Signer { number, size: 2 })?;
+    for (number, seal) in votes.seals.iter().enumerate() {
+        if seal.is_some() {
+            signers.push(Signer {
+                number: number as u8,
+                size: 2,
+            })?;
         }
     }
     Ok(signers)
@@ -199,9 +181,8 @@ fn seals_in(heap: Global, votes: &Votes) -> Result<Vec<u8>, AllocError>
     ensures { IfOk result (λ v. v.items ≡ seals_in 4 votes.now.seals) }
 {
     let mut seals = Vec::new(heap);
-    for number in 0..4 {
-        let vote = votes.seals[number];
-        if let Some(seal) = vote {
+    for seal in &votes.seals {
+        if let Some(seal) = *seal {
             seals.extend_from_slice(&[0, seal])?;
         }
     }
@@ -209,29 +190,27 @@ fn seals_in(heap: Global, votes: &Votes) -> Result<Vec<u8>, AllocError>
 }
 
 // Writes the certificate that the votes make, and answers how long it is.
-fn certify(heap: Global, offer: &Offer, votes: &Votes, out: &mut [u8; 256]) -> anyhow::Result<usize>
-    ensures answer { IfOk result (λ n. Ok n ≡ certified_answer offer.now votes.now.seals out.old) }
-    ensures buffer { OnOk result (out.new ≡ certified_buffer offer.now votes.now.seals out.old) }
-    ensures back { IfOk result (λ n. read_certificate 4 (take n out.new) ≡ Ok (contents_of offer.now.docket (signers_in 4 votes.now.seals))) }
+fn certify(heap: Global, votes: &Votes, out: &mut [u8; 256]) -> anyhow::Result<usize>
+    ensures answer { IfOk result (λ n. Ok n ≡ certified_answer votes.now out.old) }
+    ensures buffer { OnOk result (out.new ≡ certified_buffer votes.now out.old) }
+    ensures back { IfOk result (λ n. read_certificate 4 (take n out.new) ≡ Ok (contents_of votes.now.offer.docket (signers_in 4 votes.now.seals))) }
     ensures unchanged { OnErr result (out.new ≡ out.old) }
 {
     let signers = signers_in(heap, votes)?;
     let seals = seals_in(heap, votes)?;
-    match Certificate::write(4, &offer.docket, &signers, &seals, out) {
+    match Certificate::write(4, &votes.offer.docket, &signers, &seals, out) {
         Ok(length) => Ok(length),
         Err(_) => Err(anyhow!("the certificate was refused")),
     }
 }
 
-// The report that all four are, if they are the same.
-fn in_common(first: Report, second: Report, third: Report, fourth: Report) -> Option<Report>
-    ensures { Agreed first second third fourth result }
+// The report that all are, if they are the same.
+fn in_common(reports: &[Report; 4]) -> Option<Report>
+    ensures { Agreed reports.now result }
 {
-    if second == first && third == first && fourth == first {
-        Some(first)
-    } else {
-        None
-    }
+    let first = reports[0];
+    let same = reports.iter().all(|report| *report == first);
+    same.then_some(first)
 }
 
 // All four boxes take a certificate; the answer is what they report, if it is the same.
@@ -240,34 +219,29 @@ fn take_all<C: Checker>(
     boxes: &mut FourBoxes<C>,
     certificate: &[u8],
 ) -> anyhow::Result<Option<Report>>
-    ensures first { OnOk result (HasTaken C.good certificate.now boxes.old.first boxes.new.first) }
-    ensures second { OnOk result (HasTaken C.good certificate.now boxes.old.second boxes.new.second) }
-    ensures third { OnOk result (HasTaken C.good certificate.now boxes.old.third boxes.new.third) }
-    ensures fourth { OnOk result (HasTaken C.good certificate.now boxes.old.fourth boxes.new.fourth) }
-    ensures agreed { IfOk result (Agreed (report_of (stand_of boxes.new.first)) (report_of (stand_of boxes.new.second)) (report_of (stand_of boxes.new.third)) (report_of (stand_of boxes.new.fourth))) }
+    ensures took { OnOk result (Each (HasTaken C.good certificate.now) boxes.old boxes.new) }
+    ensures agreed { IfOk result (Agreed (reports_of boxes.new)) }
 {
-    let first = hand_in(rt, 0, &mut boxes.first, certificate)?;
-    let second = hand_in(rt, 1, &mut boxes.second, certificate)?;
-    let third = hand_in(rt, 2, &mut boxes.third, certificate)?;
-    let fourth = hand_in(rt, 3, &mut boxes.fourth, certificate)?;
-    Ok(in_common(first, second, third, fourth))
+    let reports = [
+        hand_in(rt, 0, &mut boxes.first, certificate)?,
+        hand_in(rt, 1, &mut boxes.second, certificate)?,
+        hand_in(rt, 2, &mut boxes.third, certificate)?,
+        hand_in(rt, 3, &mut boxes.fourth, certificate)?,
+    ];
+    Ok(in_common(&reports))
 }
 
 // All four boxes take the certificate that the votes make.
 fn settle<C: Checker>(
     rt: &HostRuntime,
     boxes: &mut FourBoxes<C>,
-    offer: &Offer,
     votes: &Votes,
 ) -> anyhow::Result<Option<Report>>
-    ensures first { OnOk result (HasTaken C.good (certificate_of offer.now votes.now.seals) boxes.old.first boxes.new.first) }
-    ensures second { OnOk result (HasTaken C.good (certificate_of offer.now votes.now.seals) boxes.old.second boxes.new.second) }
-    ensures third { OnOk result (HasTaken C.good (certificate_of offer.now votes.now.seals) boxes.old.third boxes.new.third) }
-    ensures fourth { OnOk result (HasTaken C.good (certificate_of offer.now votes.now.seals) boxes.old.fourth boxes.new.fourth) }
-    ensures agreed { IfOk result (Agreed (report_of (stand_of boxes.new.first)) (report_of (stand_of boxes.new.second)) (report_of (stand_of boxes.new.third)) (report_of (stand_of boxes.new.fourth))) }
+    ensures took { OnOk result (Each (HasTaken C.good (certificate_of votes.now)) boxes.old boxes.new) }
+    ensures agreed { IfOk result (Agreed (reports_of boxes.new)) }
 {
     let mut bytes = [0u8; 256];
-    let length = certify(rt.alloc(), offer, votes, &mut bytes)?;
+    let length = certify(rt.alloc(), votes, &mut bytes)?;
     let Some(certificate) = bytes.get(0..length) else {
         return Err(anyhow!("a certificate of a wrong length"));
     };
@@ -278,19 +252,16 @@ fn settle<C: Checker>(
 fn offer_both<C: Checker + Copy + Drop>(
     rt: &HostRuntime,
     checker: C,
-    roll: &[u8],
-    p: &Offer,
-    s: &Offer,
-    for_p: &mut Votes,
-    for_s: &mut Votes,
+    p: &mut Votes,
+    s: &mut Votes,
 ) -> anyhow::Result<FourBoxes<C>> {
     say(rt, "P is handed to all four boxes:")?;
-    let mut boxes = cut(rt, checker, roll, p, for_p)?;
+    let mut boxes = cut(rt, checker, p)?;
     say(rt, "S is handed to all four:")?;
-    hand_out(rt, &mut boxes, s, roll, for_s)?;
+    hand_out(rt, &mut boxes, s)?;
     say(rt, "P is handed to boxes 0 and 1 again:")?;
-    ask_for(rt, 0, &mut boxes.first, p, roll, for_p)?;
-    ask_for(rt, 1, &mut boxes.second, p, roll, for_p)?;
+    ask_for(rt, 0, &mut boxes.first, p)?;
+    ask_for(rt, 1, &mut boxes.second, p)?;
     Ok(boxes)
 }
 
@@ -298,17 +269,14 @@ fn offer_both<C: Checker + Copy + Drop>(
 fn play<C: Checker + Copy + Drop>(
     rt: &HostRuntime,
     checker: C,
-    roll: &[u8],
-    p: &Offer,
-    s: &Offer,
+    mut p: Votes,
+    mut s: Votes,
 ) -> anyhow::Result<()> {
-    let mut for_p = Votes::new();
-    let mut for_s = Votes::new();
-    let mut boxes = offer_both(rt, checker, roll, p, s, &mut for_p, &mut for_s)?;
+    let mut boxes = offer_both(rt, checker, &mut p, &mut s)?;
     say(rt, "All four take what was gathered for S:")?;
-    settle(rt, &mut boxes, s, &for_s)?;
+    settle(rt, &mut boxes, &s)?;
     say(rt, "All four take what was gathered for P:")?;
-    match settle(rt, &mut boxes, p, &for_p)? {
+    match settle(rt, &mut boxes, &p)? {
         Some(report) => tell(rt, &report),
         None => Err(anyhow!("the books differ")),
     }
@@ -317,8 +285,7 @@ fn play<C: Checker + Copy + Drop>(
 // What all four boxes report.
 fn tell(rt: &HostRuntime, report: &Report) -> anyhow::Result<()> {
     say(rt, "The books agree:")?;
-    let balances = [report.first, report.second, report.third];
-    for (account, balance) in balances.iter().enumerate() {
+    for (account, balance) in report.balances.iter().enumerate() {
         let balance = balance.unwrap_or(0);
         println!(rt; "  account {account}: {balance} pallets")?;
     }
@@ -334,11 +301,12 @@ fn run(rt: &HostRuntime) -> anyhow::Result<()> {
     )?;
     let p = offer_to('P', 1, 0);
     let s = offer_to('S', 2, 1);
-    let roll = roll(rt.alloc(), &p.docket, &s.docket)?;
-    let Ok(checker) = Roll::open(roll.as_slice()) else {
+    let bytes = roll(rt.alloc(), &p.docket, &s.docket)?;
+    let roll = bytes.as_slice();
+    let Ok(checker) = Roll::open(roll) else {
         return Err(anyhow!("the roll was refused"));
     };
-    play(rt, checker, roll.as_slice(), &p, &s)
+    play(rt, checker, Votes::new(p, roll), Votes::new(s, roll))
 }
 
 fn main(rt: HostRuntime) -> anyhow::Result<()> {

@@ -11,16 +11,17 @@ use Rattle.marks.specs.Outcomes.{End, ends}
 use Rattle.marks.specs.declared.outcome.Outcome.TheVariants.{FailsOld, FailsNew}
 use Rattle.settling.proofs.OrderRuns.{none≢some}
 use Rattle.workbench.specs.Bench.{opening_balances, docket_of}
+use Rattle.workbench.specs.declared.bench.BenchDocket.TheVariants.{P, Q}
 use Rattle.pool.specs.Ready.{StoreState, SlipState}
 use Rattle.pool.specs.History.{Call, countersign, release, join, take as takes, restart, History, Moment}
 use Rattle.pool.specs.Promise.{Pool, Accepted, SettledAt, moment_after, SealsHold, Agreement}
 
 -- P moves a pallet from account 0 to 1, and Q one from 1 to 0
 abbrev pub docket_p : Docket
-docket_p = docket_of 0
+docket_p = docket_of P
 
 abbrev pub docket_q : Docket
-docket_q = docket_of 1
+docket_q = docket_of Q
 
 -- The checker: every yard's seal is good, every seal of box 3 is good, which is faulty, and those of another box are
 -- good for P and Q alone.

@@ -6,6 +6,7 @@ use Rattle.lms.specs.Hashes.{head, message_hash, leaf}
 use Rattle.lms.specs.Chains.{chained, checksum, digits_of}
 use Rattle.lms.specs.Tree.{climbed}
 use Rattle.workbench.specs.Bench.{docket_of}
+use Rattle.workbench.specs.declared.bench.BenchDocket.TheVariants.{P}
 
 -- the key's identifier I, and the seal's randomizer C
 abbrev pub identifier : List ℕ
@@ -76,7 +77,7 @@ two_above =
     0x5f ∷ 0x6e ∷ 0x3d ∷ 0x31 ∷ 0x0f ∷ 0x3e ∷ 0x64 ∷ 0x43 ∷ 0x42 ∷ 0xed ∷ 0x7c ∷ 0x15 ∷ 0x18 ∷ 0x5d ∷ 0x54 ∷ 0xd7 ∷ []
 
 pub record WorkedSeals : Type 0 where
-  pub hash : message_hash identifier 5 randomizer (countersign_text 1 (encoded (docket_of 0))) ≡ hashed
+  pub hash : message_hash identifier 5 randomizer (countersign_text 1 (encoded (docket_of P))) ≡ hashed
   pub digits : digits_of hashed ≡ 192 ∷ 195 ∷ 170 ∷ 241 ∷ 102 ∷ 30 ∷ 209 ∷ 2 ∷ 91 ∷ 209 ∷ 194 ∷ 168 ∷ 209 ∷ 25 ∷ 76 ∷ 48 ∷ 134 ∷ 216 ∷ 212 ∷ 153 ∷ 34 ∷ 165 ∷ 206 ∷ 233 ∷ 63 ∷ 177 ∷ 207 ∷ 154 ∷ 173 ∷ 57 ∷ 53 ∷ 89 ∷ 14 ∷ 89 ∷ []
   pub chain_starts : chained (head identifier 5 0) 0 2 start ≡ second
   pub chain_ends : chained (head identifier 5 0) 254 255 late ≡ end

@@ -18,7 +18,8 @@ use Rattle.pool.specs.History.{Call, countersign, join, restart, Moment, after_c
 use Rattle.workbench.specs.declared.answer.Answer.{Answer}
 use Rattle.workbench.specs.declared.answer.Answer.TheVariants.{Settled, Refused}
 use Rattle.workbench.specs.Stream.{answers_to}
-use Rattle.workbench.specs.Bench.{opening_balances, one_pallet, docket_of, bench_roll, started}
+use Rattle.workbench.specs.Bench.{opening_balances, only_docket, one_pallet, docket_of, bench_roll, started}
+use Rattle.workbench.specs.declared.bench.BenchDocket.TheVariants.{P, Q, R}
 
 -- a docket of one pallet from account 0 to 1, with this count of lines and this number
 abbrev pub with : ℕ → ℕ → Docket
@@ -40,13 +41,13 @@ certificate_of n first d = head_of d (signers n) ++ take (n + n) (0 ∷ first �
 
 -- the certificates of P, Q and R
 abbrev pub cert_p : List ℕ
-cert_p = certificate_of 3 0 (docket_of 0)
+cert_p = certificate_of 3 0 (docket_of P)
 
 abbrev pub cert_q : List ℕ
-cert_q = certificate_of 3 3 (docket_of 1)
+cert_q = certificate_of 3 3 (docket_of Q)
 
 abbrev pub cert_r : List ℕ
-cert_r = certificate_of 3 6 (docket_of 2)
+cert_r = certificate_of 3 6 (docket_of R)
 
 -- what the bench's box answers to certificates, and the balances of accounts 0 to 2 after them
 abbrev pub given : List (List ℕ) → List Answer
@@ -68,13 +69,7 @@ abbrev pub docket_s : Docket
 docket_s = one_pallet 0 2
 
 abbrev pub two_pallets : Docket
-two_pallets = record {
-  pool = 7;
-  account = 0;
-  count = 1;
-  number = 1;
-  lines = (1 ∷ 1 ∷ replicate 13 0 ++ (2 ∷ [])) ∷ replicate 16 0 ∷ replicate 16 0 ∷ replicate 16 0 ∷ [];
-}
+two_pallets = only_docket 0 1 2
 
 -- what box 0 of the bench's pool answers to the countersign of a docket, after calls, beside an unmarked store whose
 -- writes end so; every yard's seal is good
@@ -92,7 +87,7 @@ slip = record { maker = 0; account = 0; number = 1 }
 
 -- P is countersigned, and then there is a restart and another join
 abbrev pub once_more : List Call
-once_more = join ∷ countersign (encoded (docket_of 0)) [] ∷ restart ∷ join ∷ []
+once_more = join ∷ countersign (encoded (docket_of P)) [] ∷ restart ∷ join ∷ []
 
 -- the table
 pub record WorkedCases : Type 0 where
@@ -104,7 +99,7 @@ pub record WorkedCases : Type 0 where
   pub number_past : read_docket (encoded (with 1 (2 ^ 40 + 1))) ≡ Err (found layer.Docket cause.Malformed 8)
   pub number_last : read_docket (encoded (with 1 (2 ^ 40))) ≡ Ok (with 1 (2 ^ 40))
   pub three_seals : length cert_p ≡ 114
-  pub places : map (λ (e : Entry). e.place) (contents_of (docket_of 0) (signers 3)).entries ≡ 108 ∷ 110 ∷ 112 ∷ []
+  pub places : map (λ (e : Entry). e.place) (contents_of (docket_of P) (signers 3)).entries ≡ 108 ∷ 110 ∷ 112 ∷ []
   pub p_q : given (cert_p ∷ cert_q ∷ []) ≡ Settled 1 ∷ Settled 1 ∷ []
   pub q_p : given (cert_q ∷ cert_p ∷ []) ≡ Settled 0 ∷ Settled 2 ∷ []
   pub p_q_balances : balances (cert_p ∷ cert_q ∷ []) ≡ 1 ∷ 0 ∷ 1 ∷ []
@@ -115,14 +110,14 @@ pub record WorkedCases : Type 0 where
   pub q_p_r_balances : balances (cert_q ∷ cert_p ∷ cert_r ∷ []) ≡ 1 ∷ 1 ∷ 0 ∷ []
   pub number_4_waits : trusting (certificate_of 3 0 (with 1 4)) ≡ Ok 0
   pub number_5_first : trusting (certificate_of 3 0 (with 1 5)) ≡ Err (found layer.Box cause.TooFarAhead 0)
-  pub two_entries : given (certificate_of 2 0 (docket_of 0) ∷ []) ≡ Refused cause.TooFewEntries ∷ []
+  pub two_entries : given (certificate_of 2 0 (docket_of P) ∷ []) ≡ Refused cause.TooFewEntries ∷ []
   pub three_entries : given (cert_p ∷ []) ≡ Settled 1 ∷ []
-  pub p_first : countersigned [] (join ∷ []) (docket_of 0) ≡ Ok slip
-  pub p_then_p : countersigned [] once_more (docket_of 0) ≡ Ok slip
+  pub p_first : countersigned [] (join ∷ []) (docket_of P) ≡ Ok slip
+  pub p_then_p : countersigned [] once_more (docket_of P) ≡ Ok slip
   pub p_then_s : countersigned [] once_more docket_s ≡ Err (found layer.Box cause.OtherMarked 0)
-  pub new_mark_stands : countersigned (ends FailsNew ∷ []) (join ∷ []) (docket_of 0) ≡ Err (found layer.Box cause.WriteFailed 0)
-  pub new_mark_then_p : countersigned (ends FailsNew ∷ []) once_more (docket_of 0) ≡ Ok slip
+  pub new_mark_stands : countersigned (ends FailsNew ∷ []) (join ∷ []) (docket_of P) ≡ Err (found layer.Box cause.WriteFailed 0)
+  pub new_mark_then_p : countersigned (ends FailsNew ∷ []) once_more (docket_of P) ≡ Ok slip
   pub new_mark_then_s : countersigned (ends FailsNew ∷ []) once_more docket_s ≡ Err (found layer.Box cause.OtherMarked 0)
-  pub old_mark_stays : countersigned (ends FailsOld ∷ []) (join ∷ []) (docket_of 0) ≡ Err (found layer.Box cause.WriteFailed 0)
+  pub old_mark_stays : countersigned (ends FailsOld ∷ []) (join ∷ []) (docket_of P) ≡ Err (found layer.Box cause.WriteFailed 0)
   pub old_mark_then_s : countersigned (ends FailsOld ∷ []) once_more docket_s ≡ Ok slip
   pub amount_2 : countersigned [] (join ∷ []) two_pallets ≡ Err (found layer.Box cause.NotCovered 0)

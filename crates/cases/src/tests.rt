@@ -1,6 +1,4 @@
 // The same cases through the code, with what the code alone can show: printed faults and reports.
-ghost use Rattle.std.specs.Prelude.{true};
-
 use book::{Book, PalletBook};
 use books::{BallotQuestion, PairAnswer, PairQuestion, ship};
 use certificate::{Certificate, CertificateFault, Signer};
@@ -9,28 +7,17 @@ use refusals::Cause;
 use seals::{Checker, Roll};
 use settlement::{BoxFault, ColdBox};
 use std::test::Fail;
-use workbench::Answer;
-use workbench::bench::{docket_of, one_pallet, opening_balances, roll};
+use workbench::bench::{BenchDocket, one_pallet, opening_balances, roll};
 use workbench::stream::hand_in;
-
-// A checker that finds every seal good.
-#[derive(Clone, Copy)]
-struct Trusting;
-
-impl Checker for Trusting {
-    ghost good = { λ _ _ _ _. true };
-
-    fn check(&self, _party: u8, _text: &[u8], _seal: &[u8]) -> bool {
-        true
-    }
-}
+use workbench::{Answer, Trusting};
 
 // A docket of one pallet from account 0 to 1, with this count of lines and this number.
 fn with(count: u8, number: u64) -> Docket {
-    let mut docket = one_pallet(0, 1);
-    docket.count = count;
-    docket.number = number;
-    docket
+    Docket {
+        count,
+        number,
+        ..one_pallet(0, 1)
+    }
 }
 
 // The docket's certificate by the first boxes, two or three, whose roll entries start at `first`.
@@ -77,7 +64,7 @@ fn dockets(rt: HostRuntime) {
 #[test]
 fn certificates(rt: HostRuntime) -> Result<(), Fail> {
     let mut bytes = [0u8; 128];
-    let length = certify(&docket_of(0), true, 0, &mut bytes)?;
+    let length = certify(&BenchDocket::P.docket(), true, 0, &mut bytes)?;
     assert_eq!(rt; length, 114);
     let certificate = Certificate::read(4, &bytes[0..114])?;
     for (entry, place) in certificate.entries().iter().zip([108, 110, 112].iter()) {
@@ -94,33 +81,28 @@ struct Outcome {
     balances: [Option<u64>; 3],
 }
 
-// Hands the certificates of P, Q and R to a fresh box of the bench's pool, in an order by their indices; 3 is none.
+// Hands certificates of the bench's dockets to a fresh box of its pool, in an order; fewer than three may come.
 fn play<B: Book<Question = u8, Answer = Option<u64>> + Drop, C: Checker + Drop>(
     book: B,
     checker: C,
-    order: [u8; 3],
+    order: [Option<BenchDocket>; 3],
 ) -> Result<Outcome, Fail> {
     let mut cold = match ColdBox::set_up(7, 0, 1, book, checker) {
         Ok(cold) => cold,
         Err(_) => return Err(Fail::new("set up")),
     };
     let mut answers = [None; 3];
-    for (slot, index) in answers.iter_mut().zip(order.iter()) {
-        if *index == 3 {
+    for (slot, name) in answers.iter_mut().zip(order) {
+        let Some(name) = name else {
             break;
-        }
+        };
         let mut bytes = [0u8; 128];
-        certify(
-            &docket_of(*index as usize),
-            true,
-            index.wrapping_mul(3),
-            &mut bytes,
-        )?;
+        certify(&name.docket(), true, 3 * name as u8, &mut bytes)?;
         *slot = Some(hand_in(&mut cold, &bytes[0..114]));
     }
     Ok(Outcome {
         answers,
-        balances: [cold.ask(0), cold.ask(1), cold.ask(2)],
+        balances: [0, 1, 2].map(|account| cold.ask(account)),
     })
 }
 
@@ -131,11 +113,12 @@ fn orders(rt: HostRuntime) -> Result<(), Fail> {
     let s2 = Some(Answer::Settled(2));
     let back = [Some(1), Some(0), Some(1)];
     let on = [Some(1), Some(1), Some(0)];
+    let [p, q, r] = [BenchDocket::P, BenchDocket::Q, BenchDocket::R].map(Some);
     let table = [
-        ([0u8, 1, 3], [s1, s1, None], back),
-        ([1, 0, 3], [s0, s2, None], back),
-        ([2, 1, 0], [s1, s1, s1], on),
-        ([1, 0, 2], [s0, s2, s1], on),
+        ([p, q, None], [s1, s1, None], back),
+        ([q, p, None], [s0, s2, None], back),
+        ([r, q, p], [s1, s1, s1], on),
+        ([q, p, r], [s0, s2, s1], on),
     ];
     let bytes = roll();
     for (order, answers, balances) in table {
@@ -175,10 +158,7 @@ fn window(rt: HostRuntime) -> Result<(), Fail> {
     ];
     for (docket, three, answer) in table {
         let mut bytes = [0u8; 128];
-        let length = match certify(&docket, three, 0, &mut bytes) {
-            Ok(length) => length,
-            Err(_) => 0,
-        };
+        let length = certify(&docket, three, 0, &mut bytes).unwrap_or(0);
         assert!(rt; length <= 128);
         assert_eq!(rt; hand_in(&mut cold, &bytes[0..length]), answer);
     }
@@ -197,7 +177,7 @@ fn window(rt: HostRuntime) -> Result<(), Fail> {
 fn printed(rt: HostRuntime) -> Result<(), Fail> {
     let mut cold = trusting_box()?;
     let mut bytes = [0u8; 128];
-    certify(&docket_of(0), true, 0, &mut bytes)?;
+    certify(&BenchDocket::P.docket(), true, 0, &mut bytes)?;
     bytes[28 + 5] = 5;
     let Err(fault) = cold.take(&bytes[0..114]) else {
         return Err(Fail::new("five lines"));

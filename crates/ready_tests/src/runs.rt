@@ -1,6 +1,4 @@
 // Countersigning, power cuts and slips, as their users would see them.
-ghost use Rattle.std.specs.Prelude.{true};
-
 use crate::{give_up, release_both, take_cold};
 use book::{Book, PalletBook};
 use certificate::{Certificate, Signer};
@@ -8,24 +6,13 @@ use docket::Docket;
 use marks::{MarkStore, Outcome, TableStore};
 use ready::ReadyBox;
 use refusals::Fault;
-use seals::{Checker, countersign_text};
+use seals::countersign_text;
 use settlement::{BoxFault, ColdBox};
 use sheet::Sheet;
 use std::process::Abort;
 use std::test::Fail;
-use workbench::bench::{one_pallet, opening_balances};
-
-// A checker that finds every seal good.
-#[derive(Clone, Copy)]
-struct Trusting;
-
-impl Checker for Trusting {
-    ghost good = { λ _ _ _ _. true };
-
-    fn check(&self, _party: u8, _text: &[u8], _seal: &[u8]) -> bool {
-        true
-    }
-}
+use workbench::Trusting;
+use workbench::bench::{one_pallet, only_docket, opening_balances};
 
 // A cold box of the bench's pool.
 fn cold_box(number: u8, faulty: u8) -> Result<ColdBox<PalletBook, Trusting>, Fail> {
@@ -53,13 +40,6 @@ fn answer_to<S: MarkStore>(
     }
 }
 
-// Docket S moves a pallet from account 0 to 2; another moves two to account 1.
-fn two_pallets() -> Docket {
-    let mut docket = one_pallet(0, 1);
-    docket.lines[0][15] = 2;
-    docket
-}
-
 #[test]
 fn marks_outlive_a_restart(rt: HostRuntime) -> Result<(), Fail> {
     let p = one_pallet(0, 1);
@@ -85,7 +65,7 @@ fn marks_outlive_a_restart(rt: HostRuntime) -> Result<(), Fail> {
 fn cover(rt: HostRuntime) -> Result<(), Fail> {
     let store = TableStore::new(0, &[])?;
     let mut ready = ReadyBox::join(cold_box(0, 1)?, store);
-    assert!(rt; answer_to(&mut ready, &two_pallets()) == Some((7, 0)));
+    assert!(rt; answer_to(&mut ready, &only_docket(0, 1, 2)) == Some((7, 0)));
     assert!(rt; answer_to(&mut ready, &one_pallet(0, 1)).is_none());
     assert!(rt; ready.ask(0) == Some(1));
     Ok(())
@@ -145,10 +125,7 @@ fn marks_outlive_the_box(rt: HostRuntime) -> Result<(), Fail> {
 
 // The certificate of a docket by the first nine boxes, with seals of one byte.
 fn certify(rt: &impl Abort, docket: &Docket, out: &mut [u8; 165]) -> Result<(), Fail> {
-    let mut signers = [Signer { number: 0, size: 1 }; 9];
-    for (number, signer) in signers.iter_mut().enumerate() {
-        signer.number = number as u8;
-    }
+    let signers = [0, 1, 2, 3, 4, 5, 6, 7, 8].map(|number| Signer { number, size: 1 });
     assert_eq!(rt;
         Certificate::write(13, docket, &signers, &[0; 9], out)?,
         165

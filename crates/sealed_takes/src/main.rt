@@ -10,7 +10,7 @@ use seals::Checker;
 use settlement::ColdBox;
 use std::io::Read;
 use workbench::bench::opening_balances;
-use workbench::stream::frame_size;
+use workbench::stream::Certificates;
 
 const KEYS: usize = 4312;
 
@@ -19,13 +19,11 @@ fn take_each<B: Book, C: Checker>(
     cold: &mut ColdBox<B, C>,
     stream: &[u8],
 ) -> anyhow::Result<()> {
-    let mut rest = stream;
-    while let Some(size) = frame_size(rest) {
-        match cold.take(&rest[2..2 + size]) {
+    for certificate in Certificates::new(stream) {
+        match cold.take(certificate) {
             Ok(count) => println!(rt; "settled {count}")?,
             Err(fault) => println!(rt; "{fault}")?,
         }
-        rest = &rest[2 + size..rest.len()];
     }
     Ok(())
 }
@@ -37,10 +35,7 @@ fn set_up_and_take<B: Book + Drop, C: Checker + Drop>(
     stream: &[u8],
 ) -> anyhow::Result<()> {
     match ColdBox::set_up(7, 0, 1, book, checker) {
-        Ok(cold) => {
-            let mut cold = cold;
-            take_each(rt, &mut cold, stream)
-        }
+        Ok(mut cold) => take_each(rt, &mut cold, stream),
         Err(_) => Err(anyhow!("wrong numbers")),
     }
 }
@@ -48,12 +43,10 @@ fn set_up_and_take<B: Book + Drop, C: Checker + Drop>(
 fn run(rt: &HostRuntime) -> anyhow::Result<()> {
     let mut input = Vec::new(rt.alloc());
     rt.stdin().read_to_end(&mut input)?;
-    let bytes = input.as_slice();
-    if bytes.len() < KEYS {
+    let Some((keys, stream)) = input.split_first_chunk::<KEYS>() else {
         return Err(anyhow!("the keys are cut short"));
-    }
-    let (keys, stream) = bytes.split_at(KEYS);
-    if let Err(fault) = Keys::open(&bytes[0..KEYS - 1]) {
+    };
+    if let Err(fault) = Keys::open(&keys[..KEYS - 1]) {
         println!(rt; "{fault}")?;
     }
     let Ok(checker) = Keys::open(keys) else {

@@ -1,7 +1,7 @@
 -- The loop over a stream's certificates. Assumes nothing.
-use Rattle.std.proofs.Common.{◌≡◌, ℕ, zero, suc, ◌+◌, ◌≤◌, Bool, true, false, cond, ltb, List, [], ◌∷◌, ◌++◌, length, drop, IfOk, Some, None, Ok, Err, vec_items, Option, Result, Vec, sym, refl, ap, ◌∙◌, arith}
+use Rattle.std.proofs.Common.{◌≡◌, ℕ, zero, suc, ◌+◌, ◌-◌, ◌≤◌, Bool, true, false, cond, ltb, List, [], ◌∷◌, ◌++◌, length, take, drop, IfOk, Some, None, Ok, Err, vec_items, Option, Result, Vec, sym, refl, ap, ◌∙◌, arith}
 use Rattle.std.specs.List.{between}
-use Rattle.std.proofs.lemmas.List.{length-drop, append_assoc, append-nil}
+use Rattle.std.proofs.lemmas.List.{length-drop, drop-drop, append_assoc, append-nil}
 use Rattle.std.proofs.lemmas.Slice.{between_to_end}
 use Rattle.std.proofs.lemmas.Bool.{ltb-false}
 use Rattle.std.proofs.lemmas.Result.{IfOk-weaker}
@@ -46,18 +46,23 @@ enough zero (suc j) stream h i = sym (ap (then_frames (frames_up_to j) stream) (
 enough (suc k) zero stream h i = ap (then_frames (frames_up_to k) stream) (none_of stream i)
 enough (suc k) (suc j) stream h i = enough_by k j stream (frame_size stream) refl h i (λ s. enough k j s)
 
+-- a certificate off the front
 pub frames_more :
-    (stream : List ℕ) (n : ℕ) → Some n ≡ frame_size stream
-    → certificates_in stream ≡ between 2 (2 + n) stream ∷ certificates_in (between (2 + n) (length stream) stream)
+    (stream certificate rest : List ℕ) (n : ℕ) → Some n ≡ frame_size stream
+    → certificate ≡ take n (between 2 (length stream) stream) → rest ≡ drop n (between 2 (length stream) stream)
+    → certificates_in stream ≡ certificate ∷ certificates_in rest
 unfolding certificates_in
-frames_more stream n e =
+frames_more stream certificate rest n e p q =
     let w = frame_within stream n (sym e) in
     let l = length-drop (2 + n) stream in
     let f : frames_up_to (length stream) stream ≡ frames_up_to (suc (length stream)) stream = enough (length stream) (suc (length stream)) stream (omega arith) (omega arith) in
     let g : frames_up_to (suc (length stream)) stream ≡ between 2 (2 + n) stream ∷ frames_up_to (length stream) (drop (2 + n) stream) = ap (then_frames (frames_up_to (length stream)) stream) (sym e) in
     let h : frames_up_to (length stream) (drop (2 + n) stream) ≡ frames_up_to (length (drop (2 + n) stream)) (drop (2 + n) stream) = enough (length stream) (length (drop (2 + n) stream)) (drop (2 + n) stream) (omega arith) (omega arith) in
-    let b : between (2 + n) (length stream) stream ≡ drop (2 + n) stream = between_to_end stream (2 + n) (length stream) (omega arith) in
-    f ∙ (g ∙ ap (λ (r : List (List ℕ)). between 2 (2 + n) stream ∷ r) (h ∙ ap (λ (s : List ℕ). frames_up_to (length s) s) (sym b)))
+    let b : between 2 (length stream) stream ≡ drop 2 stream = between_to_end stream 2 (length stream) (omega arith) in
+    let m : n ≡ 2 + n - 2 = omega arith in
+    let x : certificate ≡ between 2 (2 + n) stream = p ∙ (ap (take n) b ∙ ap (λ k. take k (drop 2 stream)) m) in
+    let y : rest ≡ drop (2 + n) stream = q ∙ (ap (drop n) b ∙ drop-drop n 2 stream) in
+    f ∙ (g ∙ (λ i. sym x i ∷ (h ∙ ap (λ (s : List ℕ). frames_up_to (length s) s) (sym y)) i))
 
 pub frames_none : (stream : List ℕ) → None ≡ frame_size stream → certificates_in stream ≡ []
 unfolding certificates_in
@@ -68,22 +73,20 @@ frames_none stream e =
 module _ {State : Type 0} (valid : State → ℕ → List ℕ → Bool) (next : State → ℕ → List ℕ → State) (good : ℕ → List ℕ → List ℕ → Bool) where
   -- a turn: the answer goes behind those that were given before
   pub answers_more :
-      (b b' : BoxState State) (stream : List ℕ) (n : ℕ) (before after : List Answer) (a : Answer) (all : List Answer)
-      → before ++ answers_to valid next good b (certificates_in stream) ≡ all → Some n ≡ frame_size stream
-      → a ≡ told (take_answer valid next good b (between 2 (2 + n) stream)) → b' ≡ take_box valid next good b (between 2 (2 + n) stream)
-      → after ≡ before ++ (a ∷ []) → after ++ answers_to valid next good b' (certificates_in (between (2 + n) (length stream) stream)) ≡ all
-  answers_more b b' stream n before after a all inv e t l p =
-      let f = frames_more stream n e in
-      let rest = answers_to valid next good b' (certificates_in (between (2 + n) (length stream) stream)) in
-      let g : answers_to valid next good b (certificates_in stream) ≡ a ∷ rest = rw (f, t, l) in
-      let h : (before ++ (a ∷ [])) ++ rest ≡ before ++ (a ∷ rest) = append_assoc before (a ∷ []) rest in
+      (b b' : BoxState State) (cs rest : List (List ℕ)) (c : List ℕ) (before after : List Answer) (a : Answer) (all : List Answer)
+      → before ++ answers_to valid next good b cs ≡ all → cs ≡ c ∷ rest
+      → a ≡ told (take_answer valid next good b c) → b' ≡ take_box valid next good b c
+      → after ≡ before ++ (a ∷ []) → after ++ answers_to valid next good b' rest ≡ all
+  answers_more b b' cs rest c before after a all inv f t l p =
+      let others = answers_to valid next good b' rest in
+      let g : answers_to valid next good b cs ≡ a ∷ others = rw (f, t, l) in
+      let h : (before ++ (a ∷ [])) ++ others ≡ before ++ (a ∷ others) = append_assoc before (a ∷ []) others in
       cc
 
   pub answers_all :
-      (b : BoxState State) (stream : List ℕ) (given all : List Answer) → given ++ answers_to valid next good b (certificates_in stream) ≡ all → None ≡ frame_size stream → given ≡ all
-  answers_all b stream given all inv e =
-      let f = frames_none stream e in
-      let g : answers_to valid next good b (certificates_in stream) ≡ [] = ap (answers_to valid next good b) f in
+      (b : BoxState State) (cs : List (List ℕ)) (given all : List Answer) → given ++ answers_to valid next good b cs ≡ all → cs ≡ [] → given ≡ all
+  answers_all b cs given all inv f =
+      let g : answers_to valid next good b cs ≡ [] = ap (answers_to valid next good b) f in
       sym (append-nil given) ∙ (ap (λ (r : List Answer). given ++ r) (sym g) ∙ inv)
 
 -- setup of box 0 in a pool of four

@@ -1,9 +1,5 @@
--- The bench's roll: how it is laid out, and that it is well laid. Assumes nothing.
-use Rattle.std.proofs.Common.{◌≡◌, ℕ, ◌+◌, ◌*◌, ◌/◌, ◌%◌, ◌^◌, ◌<◌, ◌≤◌, Bool, true, false, cond, leb, List, ◌++◌, length, take, IfOk, Ok, Err, vec_items, sum, Result, Vec, sym, refl, ap, ◌∙◌, add-one, arith}
-use borrow.Rule.Slice.PartMut.{put_mid}
-use Rattle.std.proofs.lemmas.List.{length-append, length-take, length-drop, take_all}
-use Rattle.std.proofs.lemmas.Slice.{take-put_mid}
-use Rattle.docket.specs.declared.Docket.{Docket}
+-- The bench's roll is well laid. Assumes nothing.
+use Rattle.std.proofs.Common.{◌≡◌, ℕ, ◌^◌, Bool, true, false, cond, leb, List, IfOk, Ok, Err, vec_items, sum, Result, Vec, refl, ap, arith}
 use Rattle.docket.specs.Layout.{encoded}
 use Rattle.seals.specs.Roll.{entries_laid, well_laid}
 use Rattle.std.specs.declared.alloc.AllocError.{AllocError}
@@ -15,27 +11,8 @@ use Rattle.book.specs.Pallets.{States, set_up, pallet_valid, pallet_next}
 use Rattle.seals.specs.Roll.{good_under}
 use Rattle.workbench.specs.declared.answer.Answer.{Answer}
 use Rattle.workbench.specs.Stream.{answers_to, certificates_in}
-use Rattle.workbench.specs.Bench.{opening_balances, docket_of, roll_entry, roll_up_to, bench_roll, started, bench_answers}
+use Rattle.workbench.specs.Bench.{opening_balances, bench_roll, started, bench_answers}
 use Rattle.workbench.proofs.Frames.{answers_same}
-
--- one entry more: n is the length of the part that the entry overwrites
-pub roll_more :
-    (bytes part entry : List ℕ) (k n : ℕ) (d : Docket) → length bytes ≡ 756 → k < 9 → take (84 * k) bytes ≡ roll_up_to k → d ≡ docket_of (k / 3)
-    → entry ≡ roll_entry (k % 3) d → length entry ≡ 84 → part ≡ entry → n ≡ 84
-    → (length (put_mid (84 * k) n bytes part) ≡ 756) × (take (84 * (k + 1)) (put_mid (84 * k) n bytes part) ≡ roll_up_to (k + 1))
-roll_more bytes part entry k n d l h inv e f m p q =
-    let pl : length part ≡ 84 = ap length p ∙ m in
-    let t : take (84 * (k + 1)) (put_mid (84 * k) n bytes part) ≡ take (84 * k) bytes ++ part = take-put_mid (84 * k) n bytes part (84 * (k + 1)) (omega arith) (omega arith) in
-    let s : part ≡ roll_entry (k % 3) (docket_of (k / 3)) = p ∙ (f ∙ ap (roll_entry (k % 3)) e) in
-    let r : roll_up_to (k + 1) ≡ roll_up_to k ++ roll_entry (k % 3) (docket_of (k / 3)) = ap roll_up_to (add-one k) in
-    (simp (length-append, length-take, length-drop) (omega arith), t ∙ (ap (λ (x : List ℕ). x ++ part) inv ∙ (ap (λ (x : List ℕ). roll_up_to k ++ x) s ∙ sym r)))
-
-pub roll_all : (bytes : List ℕ) (k : ℕ) → k ≤ 9 → 9 ≤ k → length bytes ≡ 756 → take (84 * k) bytes ≡ roll_up_to k → bytes ≡ bench_roll
-unfolding bench_roll
-roll_all bytes k h i l inv =
-    let n : k ≡ 9 = omega arith in
-    let w : take (84 * k) bytes ≡ bytes = take_all (84 * k) bytes (omega arith) in
-    sym w ∙ (inv ∙ ap roll_up_to n)
 
 pub bench_laid : well_laid bench_roll ≡ true
 unfolding bench_roll entries_laid encoded

@@ -4,5 +4,7 @@
 pub mod answer;
 pub mod bench;
 pub mod stream;
+pub mod trusting;
 
 pub use answer::Answer;
+pub use trusting::Trusting;

@@ -1,5 +1,6 @@
 // A stream of certificates, each after its length in two bytes, and what a box answers to it.
 ghost use Rattle.std.specs.Prelude.{◌≡◌, ◌+◌, ◌≤◌, length, IfSome, IfOk};
+ghost use Rattle.std.specs.Iterator.{YieldsFirstRef, item_count};
 ghost use Rattle.settlement.specs.Box.{box_of, take_answer, take_box};
 ghost use Rattle.workbench.specs.Stream.{frame_size, certificates_in, told, answers_to};
 ghost use Rattle.workbench.specs.Bench.{started};
@@ -16,14 +17,41 @@ pub fn frame_size(stream: &[u8]) -> Option<usize>
     ensures answer { result ≡ frame_size stream.now }
     ensures within { IfSome result (λ n. (2 + n ≤ length stream.now) × (n ≤ 65535)) }
 {
-    if stream.len() < 2 {
-        return None;
-    }
-    let size = stream[0] as usize * 256 + stream[1] as usize;
-    if stream.len() < 2 + size {
+    let (size, rest) = stream.split_first_chunk::<2>()?;
+    let size = usize::from(u16::from_be_bytes(*size));
+    if rest.len() < size {
         return None;
     }
     Some(size)
+}
+
+// The certificates of a stream, up to the one that is cut short.
+#[derive(Clone, Copy)]
+pub struct Certificates<'a> {
+    rest: &'a [u8],
+}
+
+impl<'a> Certificates<'a> {
+    pub fn new(stream: &'a [u8]) -> Certificates<'a>
+        ensures { result.rest.now ≡ stream.now }
+    {
+        Certificates { rest: stream }
+    }
+}
+
+impl<'a> Iterator for Certificates<'a> {
+    type Item = &'a [u8];
+
+    ghost next_gives = { YieldsFirstRef (λ s. certificates_in s.rest.now) };
+
+    ghost remaining = { item_count (λ s. certificates_in s.rest.now) };
+
+    fn next(&mut self) -> Option<&'a [u8]> {
+        let size = frame_size(self.rest)?;
+        let (certificate, rest) = self.rest[2..].split_at(size);
+        self.rest = rest;
+        Some(certificate)
+    }
 }
 
 // Hands a certificate to a box.
@@ -47,11 +75,8 @@ fn answer_each<B: Book, C: Checker>(
     ensures { IfOk result (λ v. v.items ≡ answers_to B.Book.valid B.Book.next (C.Checker.good cold.old.checker) (box_of B.Book.opening B.Book.kept B.Book.current cold.old) (certificates_in stream.now)) }
 {
     let mut answers = Vec::new(heap);
-    let mut rest = stream;
-    while let Some(size) = frame_size(rest) {
-        let answer = hand_in(cold, &rest[2..2 + size]);
-        answers.push(answer)?;
-        rest = &rest[2 + size..rest.len()];
+    for certificate in Certificates::new(stream) {
+        answers.push(hand_in(cold, certificate))?;
     }
     Ok(answers)
 }
@@ -67,10 +92,7 @@ pub fn answers<B: Book + Drop, C: Checker + Drop>(
     ensures { IfOk result (λ v. v.items ≡ answers_to B.Book.valid B.Book.next (C.Checker.good checker) (started (B.Book.opening book)) (certificates_in stream.now)) }
 {
     match ColdBox::set_up(7, 0, 1, book, checker) {
-        Ok(cold) => {
-            let mut cold = cold;
-            answer_each(heap, &mut cold, stream)
-        }
+        Ok(mut cold) => answer_each(heap, &mut cold, stream),
         Err(_) => unreachable(),
     }
 }

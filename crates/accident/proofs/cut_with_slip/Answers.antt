@@ -9,7 +9,7 @@ returns-in-Ok g c =
     let good = g.C.Checker.good c.args.ready.cold.checker in
     let s = stand_of c.args.ready in
     let after = stand_of c.countersign.new.self in
-    let offer = c.args.offer.now in
+    let offer = c.args.votes.now.offer in
     let e = slip_over_lem good s offer c.to_bytes.result c.to_bytes.ensures.value _ c.in-Ok.ensures.answer in
     let a = stand_asked good s offer c.to_bytes.result c.to_bytes.ensures.value _ _ c.countersign.ensures.left.state c.countersign.ensures.store in
     record {
@@ -19,5 +19,5 @@ returns-in-Ok g c =
       checker =
           IfOk-weaker c.release_late.result (λ b. b.cold.checker ≡ c.countersign.new.self.cold.checker) (λ b. b.cold.checker ≡ c.args.ready.cold.checker)
           (λ b h. h ∙ c.countersign.ensures.left.checker) c.release_late.ensures.checker;
-      votes = voted_late_lem c.args.roll.now c.args.number c.args.votes.now.seals good s after offer _ _ e a c.release_late.ensures.votes;
+      votes = voted_late_lem c.args.number c.args.votes.now good s after _ _ e a c.release_late.ensures.votes;
     }

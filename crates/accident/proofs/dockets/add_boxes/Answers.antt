@@ -7,7 +7,7 @@ use Rattle.accident.proofs.dockets.add_boxes.Goals as goal
 pub loop-number-preserved : goal.loop-number-preserved
 loop-number-preserved c =
     boxes_more _ _ _ _ c.loop-number.number c.args.docket.now c.loop-number.invariant
-    (pushed c.of_box.result refl c.in_ok-extend_from_slice.was c.extend_from_slice.ensures.items) c.of_box.ensures
+    (pushed c.roll_entry.result refl c.in_ok-extend_from_slice.was c.extend_from_slice.ensures.items) (c.roll_entry.ensures (omega arith))
 
 pub returns : goal.returns
 returns c =
