@@ -33,7 +33,7 @@ pub trait MarkStore {
         ensures answer { result ≡ owner_of self.now };
 
     // Puts the bytes of an account's mark into the buffer, or answers no and leaves the buffer as it is.
-    // A yes or no beside a caller's buffer, and no Option: nothing is copied twice, and the caller's bytes may stay.
+    // By a rule of the project a mark goes into the caller's buffer, with a yes or no beside it.
     fn read(&self, account: u8, out: &mut [u8; 80]) -> bool
         ensures answer { result ≡ read_answer (mark self.now account) }
         ensures buffer { out.new ≡ read_buffer (mark self.now account) out.old }

@@ -2,6 +2,7 @@
 use Rattle.std.specs.Prelude.{◌≡◌, ℕ, Bool, true, false, List, Ok, Err, Option, Result}
 use Rattle.refusals.specs.Reading.{Reading}
 use Rattle.docket.specs.declared.Docket.{Docket}
+use Rattle.marks.specs.Outcomes.{End}
 use Rattle.settlement.specs.declared.faults.BoxFault.{BoxFault}
 use Rattle.book.specs.declared.Book.{Ghosts}
 use Rattle.seals.specs.declared.Checker.{Ghosts as Judging}
@@ -13,7 +14,7 @@ use Rattle.ready.specs.declared.slip.Slip.{Slip}
 use Rattle.ready.specs.declared.state.ReadyBox.{ReadyBox}
 
 -- a store by its owner, its marks and its row
-abbrev pub store_of : {S : Type 0} → (S → ℕ) → (S → ℕ → Option Docket) → (S → List ℕ) → S → StoreState
+abbrev pub store_of : {S : Type 0} → (S → ℕ) → (S → ℕ → Option Docket) → (S → List End) → S → StoreState
 store_of owner mark row s = record { owner = owner s; mark = mark s; row = row s }
 
 -- the same, by what its kind of store shows

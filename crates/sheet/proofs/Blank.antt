@@ -1,22 +1,15 @@
--- The steps and the end of the loop that looks for a byte that is not zero, and parts of blank bytes. Assumes nothing.
-use Rattle.std.proofs.Common.{◌≡◌, ℕ, zero, suc, ◌+◌, ◌-◌, ◌<◌, ◌≤◌, true, false, ◌&&◌, eqb, List, [], ◌∷◌, length, get_or, drop, replicate, sym, refl, ap, ◌∙◌, arith}
-use Rattle.std.proofs.lemmas.List.{at_drop_more, at_drop_all, length-append, length-take, length-drop}
+-- Blank bytes, and parts of them. Assumes nothing.
+use Rattle.std.proofs.Common.{◌≡◌, ℕ, zero, suc, ◌-◌, ◌≤◌, true, ◌&&◌, eqb, List, [], ◌∷◌, length, drop, replicate, sym, refl, ap, ◌∙◌, arith}
+use Rattle.std.specs.List.{list_all}
+use Rattle.std.proofs.lemmas.List.{length-append, length-take, length-drop}
 use Rattle.std.proofs.lemmas.Slice.{between_to_end, between-put_mid}
 use borrow.Rule.Slice.PartMut.{put_mid}
-use Rattle.std.proofs.lemmas.Bool.{and_parts, eq-eqb, ne_eqb}
+use Rattle.std.proofs.lemmas.Bool.{and_parts}
 use Rattle.docket.specs.Layout.{blank}
 
-step : (l : List ℕ) (i : ℕ) → i < length l → blank (drop i l) ≡ (eqb (get_or l i 0) 0 && blank (drop (i + 1) l))
-step l i h = at_drop_more blank l i 0 h
-
-pub blank_more : (l : List ℕ) (i : ℕ) → i < length l → blank (drop i l) ≡ blank l → get_or l i 0 ≡ 0 → blank (drop (i + 1) l) ≡ blank l
-blank_more l i h inv z = let e = step l i h in let n = eq-eqb (get_or l i 0) 0 z in cc
-
-pub blank_stop : (l : List ℕ) (i : ℕ) → i < length l → blank (drop i l) ≡ blank l → (get_or l i 0 ≡ 0 → ⊥) → false ≡ blank l
-blank_stop l i h inv z = let e = step l i h in let n = ne_eqb (get_or l i 0) 0 z in cc
-
-pub blank_all : (l : List ℕ) (i : ℕ) → length l ≤ i → blank (drop i l) ≡ blank l → true ≡ blank l
-blank_all l i h inv = sym (at_drop_all blank l i h) ∙ inv
+pub blank_is : (l : List ℕ) → list_all (λ b. eqb b 0) l ≡ blank l
+blank_is [] = refl
+blank_is (x ∷ l) = ap (λ b. eqb x 0 && b) (blank_is l)
 
 blank_zeros : (n : ℕ) → blank (replicate n 0) ≡ true
 blank_zeros zero = refl

@@ -6,7 +6,7 @@ use Rattle.refusals.specs.Reading.{Reading}
 use Rattle.docket.specs.declared.Docket.{Docket}
 use Rattle.docket.specs.Layout.{read_docket}
 use Rattle.sheet.specs.Sheet.{records, of_account, last_of, stays_by, keep_last}
-use Rattle.sheet.proofs.Records.{or_none}
+use Rattle.sheet.proofs.Places.{or_none, length_records}
 use Rattle.sheet.proofs.Keeping.{other_none}
 use Rattle.marks.proofs.Kept.{account_read}
 
@@ -85,11 +85,6 @@ kept_tally (r ∷ rs) =
           ∙ (kept_tally rs ∙ sym (tally_same (λ a. is_some (last_of a rs)) (λ a. is_some (option_or (last_of a rs) (of_account a (read_docket r)))) 64
           (λ a l. ap is_some (other_none a rs (read_docket r) f))))
     ]
-
-length_records : (i n : ℕ) (bs : List ℕ) → length (records i n bs) ≡ n
-unfolding records
-length_records i zero bs = refl
-length_records i (suc n) bs = ap suc (length_records (i + 1) n bs)
 
 pub few_left : (n : ℕ) (bs : List ℕ) (rs : List (List ℕ)) → records 0 n bs ≡ keep_last rs → n ≤ 64
 few_left n bs rs e =

@@ -6,7 +6,7 @@ use Rattle.std.proofs.lemmas.Slice.{between_is}
 use Rattle.std.proofs.lemmas.Bool.{and_parts, and_from, leb-true, le-leb}
 use Rattle.docket.specs.Layout.{blank}
 use Rattle.sheet.specs.Sheet.{count_of, end_of, fit, records, counted, SameHead}
-use Rattle.sheet.proofs.Records.{records_same}
+use Rattle.sheet.proofs.Places.{records_same}
 
 pub record Fits (bs : List ℕ) : Type 0 where
   pub low : 5216 ≤ length bs

@@ -7,7 +7,7 @@ use Rattle.refusals.specs.Reading.{Reading}
 use Rattle.docket.specs.declared.Docket.{Docket}
 use Rattle.docket.specs.Layout.{read_docket}
 use Rattle.sheet.specs.Sheet.{record_at, records, of_account, last_of, stays_by, keep_last}
-use Rattle.sheet.proofs.Records.{records_none, records_more, records_push, records_same, or_none}
+use Rattle.sheet.proofs.Places.{records_none, records_more, records_push, records_same, or_none}
 
 -- a record that stays is moved behind those that did
 pub keep_more :

@@ -1,38 +1,27 @@
 -- What a sheet means after a write, and after a list of them. Assumes nothing.
-use Rattle.std.proofs.Common.{◌≡◌, ℕ, ◌+◌, ◌-◌, ◌<◌, ◌≤◌, Bool, true, false, cond, ◌&&◌, eqb, List, [], ◌∷◌, ◌++◌, length, drop, IfSome, is_ok, Some, None, Ok, Err, Option, Result, sym, refl, ap, ◌∙◌, subst, inl, inr, arith, MatchResult}
-use Rattle.std.specs.List.{between}
-use Rattle.std.proofs.lemmas.Slice.{between_to_end}
+use Rattle.std.proofs.Common.{◌≡◌, ℕ, ◌≤◌, Bool, true, false, cond, ◌&&◌, eqb, List, [], ◌∷◌, ◌++◌, length, take, IfSome, is_ok, Some, None, Ok, Err, Option, Result, sym, refl, ap, ◌∙◌, subst, inl, inr, arith, MatchOption, MatchResult}
 use Rattle.std.specs.Option.{option_or}
 use Rattle.std.proofs.lemmas.Bool.{and_parts, and_from, and_left, and_right, eq-eqb, ne_eqb, cases_eq, cases_Bool, cond-true, cond-false, false≢true}
 use Rattle.docket.specs.declared.Docket.{Docket}
 use Rattle.docket.specs.Layout.{blank, read_docket, encoded}
 use Rattle.marks.specs.Outcomes.{lands, stands, next_outcome, rest_of_row, End, barred}
 use Rattle.marks.specs.Marks.{well_formed, write_answer, mark_after, row_after}
-use Rattle.sheet.specs.Sheet.{count_of, end_of, fit, record_at, records, of_account, last_of, stays_by, keep_last, contents, with_room, owner_on, mark_on, row_on, head_clear, all_read, rest_clear, well_laid, SameHead, Wrote, Written, marks_after, lent, OpensSheet, Lasts}
+use Rattle.sheet.specs.Sheet.{count_of, end_of, fit, of_account, last_of, stays_by, keep_last, contents, with_room, owner_on, mark_on, row_on, head_clear, all_read, rest_clear, well_laid, SameHead, Wrote, Written, marks_after, lent, OpensSheet, Lasts, laid_out, IsMadeOf}
 use Rattle.marks.specs.declared.fault.StoreFault.{StoreFault}
+use Rattle.sheet.specs.declared.Parts.{Parts}
 use Rattle.sheet.specs.declared.Sheet.{Sheet}
-use Rattle.sheet.proofs.Records.{or_assoc, or_none, records_none, records_more}
+use Rattle.sheet.proofs.Found.{or_assoc}
+use Rattle.sheet.proofs.Places.{or_none}
 use Rattle.sheet.proofs.Keeping.{kept_last}
 use Rattle.marks.proofs.Kept.{not_landed}
 use Rattle.sheet.specs.Own.{on_is}
-use Rattle.sheet.proofs.Heads.{fits, fits_from}
+use Rattle.sheet.proofs.Heads.{fits, fits_from, head_taken}
+use Rattle.std.proofs.lemmas.List.{take-take}
 
 -- what is read on a sheet is well formed
 pub on_formed : (bs : List ℕ) (a : ℕ) (m : Option Docket) → m ≡ mark_on bs a → IfSome m (λ d. well_formed d ≡ true)
 on_formed bs a None e = tt
 on_formed bs a (Some d) e = (on_is (fit bs) a (contents bs) d (sym e)).0
-
--- the steps and the end of the loop that reads every record
-pub read_more : (i n : ℕ) (bs : List ℕ) (all : Bool) → i < n → all_read (records i (n - i) bs) ≡ all → is_ok (read_docket (record_at i bs)) ≡ true → all_read (records (i + 1) (n - (i + 1)) bs) ≡ all
-read_more i n bs all h inv ok =
-    sym (ap (λ b. b && all_read (records (i + 1) (n - (i + 1)) bs)) ok) ∙ (sym (ap all_read (records_more i n bs h)) ∙ inv)
-
-pub read_stop : (i n : ℕ) (bs : List ℕ) (all : Bool) → i < n → all_read (records i (n - i) bs) ≡ all → is_ok (read_docket (record_at i bs)) ≡ false → false ≡ all
-read_stop i n bs all h inv no' =
-    sym (ap (λ b. b && all_read (records (i + 1) (n - (i + 1)) bs)) no') ∙ (sym (ap all_read (records_more i n bs h)) ∙ inv)
-
-pub read_all : (i n : ℕ) (bs : List ℕ) (all : Bool) → n ≤ i → all_read (records i (n - i) bs) ≡ all → true ≡ all
-read_all i n bs all h inv = ap all_read (sym (records_none i n bs h)) ∙ inv
 
 -- what is kept of records that are dockets, and one more
 read_keep : (rs : List (List ℕ)) → all_read rs ≡ true → all_read (keep_last rs) ≡ true
@@ -203,9 +192,15 @@ lasts bs w ds cs e =
       opened = opened_again cs (owner_on bs) (marks_after (mark_on bs) ds) r.0 r.1 r.2;
     }
 
-pub body_laid : (n : ℕ) (bs : List ℕ) (r : Bool) → n ≡ count_of bs → true ≡ all_read (records 0 n bs) → r ≡ blank (between (end_of n) (length bs) bs) → r ≡ (all_read (contents bs) && rest_clear bs)
-body_laid n bs r e a b =
-    let z : length bs ≤ length bs = omega arith in
-    let rest = between_to_end bs (end_of n) (length bs) z in
-    let c : r ≡ (all_read (records 0 n bs) && blank (drop (end_of n) bs)) = (b ∙ ap blank rest) ∙ ap (λ t. t && blank (drop (end_of n) bs)) a in
-    c ∙ ap (λ k. all_read (records 0 k bs) && blank (drop (end_of k) bs)) e
+-- what is asked of the parts of bytes tells whether the bytes are well laid
+module _ (bs : List ℕ) (r : Bool) (P : Parts → Type 0) (laid : (p : Parts) → P p → r ≡ laid_out p) where
+  pub laid_is : (o : Option Parts) → MatchOption o (fit bs ≡ false) (IsMadeOf bs) → MatchOption o (r ≡ false) P → r ≡ well_laid bs
+  laid_is None f e = e ∙ sym (and_left _ _ f)
+  laid_is (Some p) m e =
+      let head : head_clear p.head.now ≡ head_clear bs = ap head_clear m.head ∙ (head_taken bs (take 16 bs) (take-take 16 16 bs (omega arith))).1 in
+      let rows : all_read p.records.now ≡ all_read (contents bs) = ap all_read m.rows in
+      let rest : blank p.rest.now ≡ rest_clear bs = ap blank m.rest in
+      let f : fit bs ≡ true = m.fits in
+      let q = laid p e in
+      let z : well_laid bs ≡ (head_clear bs && (all_read (contents bs) && rest_clear bs)) = ap (λ b. b && (head_clear bs && (all_read (contents bs) && rest_clear bs))) f in
+      cc

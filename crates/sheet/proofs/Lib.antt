@@ -1,4 +1,5 @@
-mod Records
+mod Found
+mod Places
 mod Keeping
 mod Few
 mod Blank

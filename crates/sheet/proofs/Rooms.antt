@@ -11,7 +11,7 @@ use Rattle.marks.specs.Marks.{well_formed}
 use Rattle.sheet.specs.Sheet.{count_of, end_of, record_at, records, keep_last, counted, contents, with_room, rest_clear, SameHead}
 use Rattle.marks.specs.Kept.{formed}
 use Rattle.sheet.proofs.Blank.{blank_drop}
-use Rattle.sheet.proofs.Records.{records_same, records_push, record_put, record_before, head_put}
+use Rattle.sheet.proofs.Places.{records_same, records_push, record_put, record_before, head_put}
 use Rattle.sheet.proofs.Heads.{count_counted, drop_counted, records_counted, head_counted, head_taken, head_then, front_same, front_records}
 
 -- the four steps of making room: the records are moved together, what follows is cleared, and they are counted

@@ -1,6 +1,6 @@
 -- A sheet of marks: 16 bytes of head, with the owner in byte 0 and the count of records in bytes 2 and 3, then the
 -- records, each the 80 bytes of a docket, and zeros up to the end.
-use Rattle.std.specs.Prelude.{◌≡◌, ℕ, zero, suc, ◌+◌, ◌*◌, ◌/◌, ◌%◌, Bool, true, false, cond, not, ◌&&◌, List, [], ◌∷◌, ◌++◌, length, drop, is_some, is_ok, Some, None, Ok, Err, Option, Result, MatchResult, ◌==◌, nat_le, slice_index, slice_set}
+use Rattle.std.specs.Prelude.{◌≡◌, ℕ, zero, suc, ◌+◌, ◌*◌, ◌/◌, ◌%◌, Bool, true, false, cond, not, ◌&&◌, List, [], ◌∷◌, ◌++◌, length, take, drop, is_some, is_ok, Some, None, Ok, Err, Option, Result, MatchResult, ◌==◌, nat_le, slice_index, slice_set}
 use Rattle.std.specs.List.{between}
 use Rattle.std.specs.Option.{option_or}
 use Rattle.refusals.specs.Reading.{Reading}
@@ -10,6 +10,7 @@ use Rattle.marks.specs.Marks.{well_formed, write_answer, mark_after, row_after}
 use Rattle.marks.specs.Outcomes.{End, barred}
 use Rattle.marks.specs.declared.fault.StoreFault.{StoreFault}
 use Rattle.marks.specs.declared.fault.StoreFault.TheVariants.{Layout}
+use Rattle.sheet.specs.declared.Parts.{Parts}
 use Rattle.sheet.specs.declared.Sheet.{Sheet}
 
 abbrev pub count_of : List ℕ → ℕ
@@ -85,6 +86,17 @@ rest_clear bs = blank (drop (end_of (count_of bs)) bs)
 
 abbrev pub well_laid : List ℕ → Bool
 well_laid bs = fit bs && (head_clear bs && (all_read (contents bs) && rest_clear bs))
+
+-- bytes that a sheet may have, and their parts: the head, the records and what follows them
+pub record IsMadeOf (bs : List ℕ) (parts : Parts) : Type 0 where
+  pub fits : fit bs ≡ true
+  pub head : parts.head.now ≡ take 16 bs
+  pub rows : parts.records.now ≡ contents bs
+  pub rest : parts.rest.now ≡ drop (end_of (count_of bs)) bs
+
+-- in the parts the head's other bytes are zero, every record is a docket, and what follows is zero
+abbrev pub laid_out : Parts → Bool
+laid_out parts = head_clear parts.head.now && (all_read parts.records.now && blank parts.rest.now)
 
 -- the head is as it was, but for the count
 abbrev pub SameHead : List ℕ → List ℕ → Type 0

@@ -1,69 +1,116 @@
 // A store of marks in host bytes, which outlive the box.
 #![tactic(auto)]
 
-ghost use Rattle.std.specs.Prelude.{◌≡◌, ℕ, ◌+◌, ◌-◌, ◌<◌, ◌≤◌, true, ◌&&◌, [], ◌∷◌, ◌++◌, length, take, drop, IfOk, Ok, ◌≢◌};
+ghost use Rattle.std.specs.Prelude.{◌≡◌, ℕ, ◌+◌, ◌-◌, ◌^◌, ◌<◌, ◌≤◌, true, ◌&&◌, [], ◌∷◌, ◌++◌, length, take, drop, IfOk, Ok, ◌≢◌, false, MatchOption};
 ghost use Rattle.docket.specs.Layout.{blank, read_docket, encoded};
-ghost use Rattle.sheet.specs.Sheet.{count_of, end_of, fit, record_at, records, of_account, last_of, stays_by, keep_last, counted, contents, with_room, owner_on, mark_on, row_on, head_clear, all_read, rest_clear, well_laid, SameHead, Wrote, Lasts, lent, OpensSheet};
+ghost use Rattle.sheet.specs.Sheet.{count_of, end_of, fit, record_at, records, of_account, last_of, stays_by, keep_last, counted, contents, with_room, owner_on, mark_on, row_on, head_clear, all_read, laid_out, IsMadeOf, rest_clear, well_laid, SameHead, Wrote, Lasts, lent, OpensSheet};
 ghost use Rattle.sheet.specs.Own.{mark_on_lem};
 ghost use Rattle.marks.specs.Marks.{well_formed, write_answer, mark_after, row_after};
 
 use docket::Docket;
 use marks::{MarkStore, StoreFault, give, is_well_formed};
 
-// The bytes before the first record, and those of a record.
+// The bytes of the head, and those of a record.
 const HEAD: usize = 16;
 
 const RECORD: usize = 80;
 
+// The lengths that a sheet may have.
+const SHORTEST: usize = 5216;
+
+const LONGEST: usize = 65536;
+
+// What the bytes of a sheet are made of: its head, its records and what follows them.
+#[derive(Clone, Copy)]
+struct Parts<'a> {
+    head: &'a [u8; HEAD],
+    records: &'a [[u8; RECORD]],
+    rest: &'a [u8],
+}
+
+impl<'a> Parts<'a> {
+    // Takes bytes apart that have a sheet's length, and space for the records that they count.
+    fn of(bytes: &'a [u8]) -> Option<Parts<'a>>
+        ensures { MatchOption result (fit bytes.now ≡ false) (IsMadeOf bytes.now) }
+    {
+        if !(SHORTEST..=LONGEST).contains(&bytes.len()) {
+            return None;
+        }
+        let count = count(bytes);
+        let rest = bytes.get(end_of(count)..)?;
+        Some(Parts {
+            head: bytes.first_chunk()?,
+            records: records(bytes, count),
+            rest,
+        })
+    }
+
+    // The head's bytes besides owner and count are zero, every record is a docket, and zeros follow them.
+    fn are_laid(self) -> bool
+        ensures { result ≡ laid_out self.entry }
+    {
+        let head = self.head;
+        head[1] == 0 && is_blank(&head[4..]) && are_read(self.records) && is_blank(self.rest)
+    }
+}
+
 // How many records the head counts.
 fn count(bytes: &[u8]) -> usize
-    requires { 16 ≤ length bytes.now }
+    requires { 4 ≤ length bytes.now }
     ensures { result ≡ count_of bytes.now }
 {
     usize::from(u16::from_be_bytes([bytes[2], bytes[3]]))
 }
 
-// The bytes have a sheet's length, and space for the records that they count.
-fn is_fit(bytes: &[u8]) -> bool
-    ensures { result ≡ fit bytes.now }
+// Where the first `count` records end.
+fn end_of(count: usize) -> usize
+    requires { end_of count < 2 ^ 64 }
+    ensures { result ≡ end_of count }
 {
-    5216 <= bytes.len() && bytes.len() <= 65536 && HEAD + RECORD * count(bytes) <= bytes.len()
+    HEAD + RECORD * count
+}
+
+// The first `count` records.
+fn records(bytes: &[u8], count: usize) -> &[[u8; RECORD]]
+    requires { end_of count ≤ length bytes.now }
+    ensures value { result.now ≡ records 0 count bytes.now }
+    ensures len { length result.now ≡ count }
+{
+    let (records, _) = bytes[HEAD..end_of(count)].as_chunks();
+    records
 }
 
 // A record, if it is a docket of the account.
-fn of_account(bytes: &[u8], i: usize, account: u8) -> Option<Docket>
-    requires { end_of i + 80 ≤ length bytes.now }
-    ensures { result ≡ of_account account (read_docket (record_at i bytes.now)) }
+fn of_account(record: &[u8; RECORD], account: u8) -> Option<Docket>
+    ensures { result ≡ of_account account (read_docket «record».now) }
 {
-    let at = HEAD + RECORD * i;
-    match Docket::read(&bytes[at..at + RECORD]) {
-        Ok(docket) if docket.account == account => Some(docket),
-        _ => None,
-    }
+    Docket::read(record)
+        .ok()
+        .filter(|docket| docket.account == account)
 }
 
-// The last record of an account from the one at `from` on.
-fn last_of(bytes: &[u8], from: usize, count: usize, account: u8) -> Option<Docket>
-    requires { (from ≤ count) × (end_of count ≤ length bytes.now) }
-    ensures { result ≡ last_of account (records from (count - from) bytes.now) }
+// The last record of an account.
+fn last_of(records: &[[u8; RECORD]], account: u8) -> Option<Docket>
+    ensures { result ≡ last_of account records.now }
 {
-    let mut found = None;
-    for i in from..count {
-        found = of_account(bytes, i, account).or(found);
-    }
-    found
+    records
+        .iter()
+        .rev()
+        .find_map(|record| of_account(record, account))
 }
 
 // Whether a record is a docket, with no later one of its account.
-fn stays(bytes: &[u8], i: usize, count: usize) -> bool
-    requires { (i < count) × (end_of count ≤ length bytes.now) }
-    ensures { result ≡ stays_by (read_docket (record_at i bytes.now)) (records (i + 1) (count - (i + 1)) bytes.now) }
+fn stays(record: &[u8; RECORD], later: &[[u8; RECORD]]) -> bool
+    ensures { result ≡ stays_by (read_docket «record».now) later.now }
 {
-    let at = HEAD + RECORD * i;
-    match Docket::read(&bytes[at..at + RECORD]) {
-        Ok(docket) => last_of(bytes, i + 1, count, docket.account).is_none(),
-        Err(_) => false,
-    }
+    Docket::read(record).is_ok_and(|docket| last_of(later, docket.account).is_none())
+}
+
+// Whether every record is a docket.
+fn are_read(records: &[[u8; RECORD]]) -> bool
+    ensures { result ≡ all_read records.now }
+{
+    records.iter().all(|record| Docket::read(record).is_ok())
 }
 
 // Copies a record to another place.
@@ -73,9 +120,7 @@ fn copy_record(bytes: &mut [u8], from: usize, to: usize)
     ensures others { (k : ℕ) → (k ≢ to) → record_at k bytes.new ≡ record_at k bytes.old }
     ensures head { take 16 bytes.new ≡ take 16 bytes.old }
 {
-    let mut record = [0; RECORD];
-    record.copy_from_slice(&bytes[HEAD + RECORD * from..HEAD + RECORD * from + RECORD]);
-    bytes[HEAD + RECORD * to..HEAD + RECORD * to + RECORD].copy_from_slice(&record);
+    bytes.copy_within(end_of(from)..end_of(from + 1), end_of(to));
 }
 
 // Drops each record that is no docket or has a later one of its account, and answers how many are left.
@@ -88,7 +133,8 @@ fn compact(bytes: &mut [u8], count: usize) -> usize
 {
     let mut place = 0;
     for i in 0..count {
-        if stays(bytes, i, count) {
+        let records = records(bytes, count);
+        if stays(&records[i], &records[i + 1..]) {
             copy_record(bytes, i, place);
             place += 1;
         }
@@ -112,19 +158,14 @@ fn clear_rest(bytes: &mut [u8], count: usize)
     ensures front { take (end_of count) bytes.new ≡ take (end_of count) bytes.old }
     ensures rest { blank (drop (end_of count) bytes.new) ≡ true }
 {
-    bytes[HEAD + RECORD * count..].fill(0);
+    bytes[end_of(count)..].fill(0);
 }
 
 // Whether every byte is zero.
 fn is_blank(bytes: &[u8]) -> bool
     ensures { result ≡ blank bytes.now }
 {
-    for b in bytes {
-        if *b != 0 {
-            return false;
-        }
-    }
-    true
+    bytes.iter().all(|b| *b == 0)
 }
 
 // Makes space for another record, where there is none, by dropping those that have a later one of their account.
@@ -136,7 +177,7 @@ fn make_room(bytes: &mut [u8])
     ensures rest { rest_clear bytes.old ≡ true → rest_clear bytes.new ≡ true }
 {
     let count = count(bytes);
-    if HEAD + RECORD * count + RECORD <= bytes.len() {
+    if end_of(count + 1) <= bytes.len() {
         return;
     }
     let left = compact(bytes, count);
@@ -155,7 +196,7 @@ fn append(bytes: &mut [u8], docket: &Docket) -> bool
     ensures back { read_docket (encoded docket.now) ≡ Ok docket.now }
 {
     let count = count(bytes);
-    let at = HEAD + RECORD * count;
+    let at = end_of(count);
     let stood = docket.write(&mut bytes[at..at + RECORD]).is_ok();
     set_count(bytes, count + 1);
     stood
@@ -169,60 +210,25 @@ fn write_mark(bytes: &mut [u8], docket: &Docket) -> bool
     if !is_well_formed(docket) {
         return false;
     }
-    if !is_fit(bytes) {
+    if Parts::of(bytes).is_none() {
         return false;
     }
     make_room(bytes);
     append(bytes, docket)
 }
 
-// Whether the first `count` records are dockets.
-fn records_read(bytes: &[u8], count: usize) -> bool
-    requires { end_of count ≤ length bytes.now }
-    ensures { result ≡ all_read (records 0 count bytes.now) }
-{
-    for i in 0..count {
-        let at = HEAD + RECORD * i;
-        if Docket::read(&bytes[at..at + RECORD]).is_err() {
-            return false;
-        }
-    }
-    true
-}
-
-// The head's bytes besides owner and count are zero.
-fn head_is_clear(bytes: &[u8]) -> bool
-    requires { 16 ≤ length bytes.now }
-    ensures { result ≡ head_clear bytes.now }
-{
-    bytes[1] == 0 && is_blank(&bytes[4..HEAD])
-}
-
-// Every record is a docket, and zeros follow them.
-fn body_is_laid(bytes: &[u8]) -> bool
-    requires { fit bytes.now ≡ true }
-    ensures { result ≡ (all_read (contents bytes.now) && rest_clear bytes.now) }
-{
-    let count = count(bytes);
-    let rest = &bytes[HEAD + RECORD * count..];
-    records_read(bytes, count) && is_blank(rest)
-}
-
+// Whether the bytes are a sheet.
 fn is_laid(bytes: &[u8]) -> bool
     ensures { result ≡ well_laid bytes.now }
 {
-    is_fit(bytes) && head_is_clear(bytes) && body_is_laid(bytes)
+    Parts::of(bytes).is_some_and(|parts| parts.are_laid())
 }
 
 // The mark of an account; bytes that are no sheet have none.
 fn find(bytes: &[u8], account: u8) -> Option<Docket>
     ensures { result ≡ mark_on bytes.now account }
 {
-    if is_fit(bytes) {
-        last_of(bytes, 0, count(bytes), account)
-    } else {
-        None
-    }
+    last_of(Parts::of(bytes)?.records, account)
 }
 
 // No fact is kept of the bytes, so every call is right over any bytes.
@@ -257,11 +263,7 @@ impl<'a> MarkStore for Sheet<'a> {
     ghost own = { λ sheet. mark_on_lem (lent sheet) };
 
     fn owner(&self) -> u8 {
-        if self.bytes.is_empty() {
-            0
-        } else {
-            self.bytes[0]
-        }
+        self.bytes.first().copied().unwrap_or(0)
     }
 
     fn read(&self, account: u8, out: &mut [u8; 80]) -> bool {

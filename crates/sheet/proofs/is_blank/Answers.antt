@@ -1,12 +1,8 @@
-use Rattle.std.proofs.Common.{arith}
-use Rattle.sheet.proofs.Blank.{blank_more, blank_stop, blank_all}
+use Rattle.std.proofs.Common.{◌∙◌, eqb, rules, tests}
+use Rattle.std.proofs.lemmas.Iterator.{YieldsList-from_slice}
+use Rattle.std.proofs.lemmas.Iterator.Search.{all_from_yields_List}
+use Rattle.sheet.proofs.Blank.{blank_is}
 use Rattle.sheet.proofs.is_blank.Goals as goal
 
-pub returns-then-b-ne0 : goal.returns-then-b-ne0
-returns-then-b-ne0 c = blank_stop _ c.loop-b.b-index (omega arith) c.loop-b.invariant c.if-b-ne0.true
-
-pub loop-b-preserved : goal.loop-b-preserved
-loop-b-preserved c = blank_more _ c.loop-b.b-index (omega arith) c.loop-b.invariant c.if-b-ne0.false
-
 pub returns : goal.returns
-returns c = blank_all _ c.loop-b.b-index (omega arith) c.loop-b.invariant
+returns c = all_from_yields_List (λ b. eqb b 0) _ _ c.all.result c.all.ensures.ran (YieldsList-from_slice c.args.bytes.now (cc)) (λ x b q k. search (rules, tests)) ∙ blank_is c.args.bytes.now

@@ -1,15 +1,12 @@
-use Rattle.std.proofs.Common.{ap, ◌∙◌, arith}
-use Rattle.std.specs.Option.{option_or}
-use Rattle.sheet.proofs.Records.{last_more, last_all, or_none}
+use Rattle.std.proofs.Common.{◌∙◌, rules, tests}
+use Rattle.std.proofs.lemmas.Iterator.Adapters.{YieldsList-from_rev_slice}
+use Rattle.docket.specs.Layout.{read_docket}
+use Rattle.sheet.specs.Sheet.{of_account}
+use Rattle.sheet.proofs.Found.{found_from_find_map}
+use Rattle.sheet.proofs.Places.{first_reverse}
 use Rattle.sheet.proofs.last_of.Goals as goal
 
-pub loop-i-init : goal.loop-i-init
-loop-i-init c = or_none _
-
-pub loop-i-preserved : goal.loop-i-preserved
-loop-i-preserved c =
-    last_more c.args.account c.loop-i.i c.args.count c.args.bytes.now c.loop-i.found _ _ (omega arith) c.loop-i.invariant
-    (c.or-found.ensures ∙ ap (λ m. option_or m c.loop-i.found) c.of_account.ensures)
-
 pub returns : goal.returns
-returns c = last_all c.args.account c.loop-i.i c.args.count c.args.bytes.now _ _ (omega arith) c.loop-i.invariant
+returns c =
+    found_from_find_map _ (λ r. of_account c.args.account (read_docket r)) _ (YieldsList-from_rev_slice c.args.records.now (cc)) (λ x r q k. search (rules, tests)) c.find_map.result c.find_map.ensures.runs
+    ∙ first_reverse c.args.account c.args.records.now

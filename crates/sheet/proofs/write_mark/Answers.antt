@@ -10,9 +10,9 @@ returns-then-not-is_well_formed c =
     let w : well_formed c.args.docket.now ≡ false = sym c.is_well_formed.ensures ∙ c.if-not-is_well_formed.true in
     record { answer = answer_malformed c.args.bytes.now c.args.docket.now w; wrote = wrote_malformed c.args.bytes.now c.args.docket.now w }
 
-pub returns-then-not-is_fit : goal.returns-then-not-is_fit
-returns-then-not-is_fit c =
-    let f : fit c.args.bytes.now ≡ false = sym c.is_fit.ensures ∙ c.if-not-is_fit.true in
+pub returns-then-is_none : goal.returns-then-is_none
+returns-then-is_none c =
+    let f : fit c.args.bytes.now ≡ false = search rules in
     record { answer = answer_unfit c.args.bytes.now c.args.docket.now f; wrote = wrote_unfit c.args.bytes.now c.args.docket.now f }
 
 pub returns : goal.returns
@@ -22,7 +22,7 @@ returns c =
     let room = c.make_room.new.bytes in
     let end = c.append.new.bytes in
     let w : well_formed d ≡ true = sym c.is_well_formed.ensures ∙ c.if-not-is_well_formed.false in
-    let f : fit was ≡ true = sym c.is_fit.ensures ∙ c.if-not-is_fit.false in
+    let f : fit was ≡ true = search rules in
     let same : length end ≡ length was = search rules in
     record {
       answer = c.append.ensures.stood ∙ answer_stood was d w f;
