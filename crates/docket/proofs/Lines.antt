@@ -1,9 +1,7 @@
--- The first line that is not blank, and the lines that are used. Assumes nothing.
-use Rattle.std.proofs.Common.{◌≡◌, ℕ, ◌+◌, ◌-◌, ◌*◌, min, Bool, true, false, cond, not, ◌&&◌, leb, List, [], ◌∷◌, length, take, Some, None, Option, sym, refl, ap, ◌∙◌, inl, inr, arith}
+-- The first line that is not blank. Assumes nothing.
+use Rattle.std.proofs.Common.{◌≡◌, ℕ, ◌+◌, ◌*◌, Bool, true, false, cond, not, ◌&&◌, leb, List, [], ◌∷◌, Some, None, Option, refl, ap, ◌∙◌}
 use Rattle.std.specs.List.{enumerate_from, position_from}
 use Rattle.std.specs.Option.{MatchOption, IsSomeAnd, option_map}
-use Rattle.std.proofs.lemmas.List.{take_all}
-use Rattle.std.proofs.lemmas.Bool.{cases_lt}
 use Rattle.docket.specs.Layout.{blank, wrong_line}
 
 -- what a closure makes of what an option holds
@@ -20,11 +18,3 @@ mapped_if f false i o = refl
 pub wrong_at : (k i : ℕ) (ls : List (List ℕ)) → wrong_line k i ls ≡ option_map (λ j. 16 + 16 * j) (position_from (λ p. leb k p.0 && not (blank p.1)) i (enumerate_from i ls))
 wrong_at k i [] = refl
 wrong_at k i (l ∷ ls) = ap (cond (leb k i && not (blank l)) (Some (16 + 16 * i))) (wrong_at k (i + 1) ls) ∙ mapped_if (λ j. 16 + 16 * j) (leb k i && not (blank l)) i _
-
--- a front that is cut at the list's end is that front
-pub front_held : (ls : List (List ℕ)) (k e : ℕ) → length ls ≡ 4 → e ≡ min 4 k → take (e - 0) ls ≡ take k ls
-front_held ls k e h m =
-    elim (cases_lt k 4) [
-      | inl less ↦ let f : e - 0 ≡ k = omega arith in ap (λ n. take n ls) f
-      | inr more ↦ take_all (e - 0) ls (omega arith) ∙ sym (take_all k ls (omega arith))
-    ]

@@ -23,14 +23,14 @@ use Rattle.docket.specs.Layout.{blank, wrong_place, unless_wrong, same_fields, d
 abbrev pub AreBytes : List ℕ → Type 0
 AreBytes bs = (k : ℕ) → get_or bs k 0 < 256
 
-take_bytes : (n : ℕ) (bs : List ℕ) → AreBytes bs → AreBytes (take n bs)
+pub take_bytes : (n : ℕ) (bs : List ℕ) → AreBytes bs → AreBytes (take n bs)
 take_bytes n bs b k =
     elim (cases_lt k n) [
       | inl less ↦ rw (get_or-take n bs k 0 less) (b k)
       | inr more ↦ let l = length-take n bs in rw (get_or_past (take n bs) k 0 (omega arith)) (lit< tt)
     ]
 
-drop_bytes : (n : ℕ) (bs : List ℕ) → AreBytes bs → AreBytes (drop n bs)
+pub drop_bytes : (n : ℕ) (bs : List ℕ) → AreBytes bs → AreBytes (drop n bs)
 drop_bytes n bs b k = rw (get_or-drop n bs k 0) (b (n + k))
 
 -- four bytes that are read as a number are written as they were
