@@ -3,7 +3,8 @@ use Rattle.std.proofs.Common.{◌≡◌, ℕ, ◌≤◌, Bool, true, false, cond
 use Rattle.std.specs.Option.{option_or}
 use Rattle.std.proofs.lemmas.Bool.{and_parts, and_from, and_left, and_right, eq-eqb, ne_eqb, cases_eq, cases_Bool, cond-true, cond-false, false≢true}
 use Rattle.docket.specs.declared.Docket.{Docket}
-use Rattle.docket.specs.Layout.{blank, read_docket, encoded}
+use Rattle.layout.specs.Bytes.{blank}
+use Rattle.docket.specs.Layout.{read_docket, encoded}
 use Rattle.marks.specs.Outcomes.{lands, stands, next_outcome, rest_of_row, End, barred}
 use Rattle.marks.specs.Marks.{well_formed, write_answer, mark_after, row_after}
 use Rattle.sheet.specs.Sheet.{count_of, end_of, fit, of_account, last_of, stays_by, keep_last, contents, with_room, owner_on, mark_on, row_on, head_clear, all_read, rest_clear, well_laid, SameHead, Wrote, Written, marks_after, lent, OpensSheet, Lasts, laid_out, IsMadeOf}

@@ -2,12 +2,14 @@
 #![tactic(auto)]
 
 ghost use Rattle.std.specs.Prelude.{◌≡◌, ℕ, ◌+◌, ◌-◌, ◌^◌, ◌<◌, ◌≤◌, true, ◌&&◌, [], ◌∷◌, ◌++◌, length, take, drop, IfOk, Ok, ◌≢◌, false, MatchOption};
-ghost use Rattle.docket.specs.Layout.{blank, read_docket, encoded};
+ghost use Rattle.layout.specs.Bytes.{blank};
+ghost use Rattle.docket.specs.Layout.{read_docket, encoded};
 ghost use Rattle.sheet.specs.Sheet.{count_of, end_of, fit, record_at, records, of_account, last_of, stays_by, keep_last, counted, contents, with_room, owner_on, mark_on, row_on, head_clear, all_read, laid_out, IsMadeOf, rest_clear, well_laid, SameHead, Wrote, Lasts, lent, OpensSheet};
 ghost use Rattle.sheet.specs.Own.{mark_on_lem};
 ghost use Rattle.marks.specs.Marks.{well_formed, write_answer, mark_after, row_after};
 
 use docket::Docket;
+use layout::is_blank;
 use marks::{MarkStore, StoreFault, give, is_well_formed};
 
 // The bytes of the head, and those of a record.
@@ -159,13 +161,6 @@ fn clear_rest(bytes: &mut [u8], count: usize)
     ensures rest { blank (drop (end_of count) bytes.new) ≡ true }
 {
     bytes[end_of(count)..].fill(0);
-}
-
-// Whether every byte is zero.
-fn is_blank(bytes: &[u8]) -> bool
-    ensures { result ≡ blank bytes.now }
-{
-    bytes.iter().all(|b| *b == 0)
 }
 
 // Makes space for another record, where there is none, by dropping those that have a later one of their account.
