@@ -202,10 +202,7 @@ fn write_mark(bytes: &mut [u8], docket: &Docket) -> bool
     ensures answer { result ≡ write_answer (row_on bytes.old) docket.now }
     ensures wrote { Wrote bytes.old docket.now bytes.new }
 {
-    if !is_well_formed(docket) {
-        return false;
-    }
-    if Parts::of(bytes).is_none() {
+    if !is_well_formed(docket) || Parts::of(bytes).is_none() {
         return false;
     }
     make_room(bytes);
@@ -235,6 +232,7 @@ pub struct Sheet<'a> {
 impl<'a> Sheet<'a> {
     // Refuses bytes of wrong length or layout. What is written through the sheet is there when the bytes are opened
     // again, with the same owner.
+    #[tactic(auto, using(crate::proofs::Lasting::lasts))]
     pub fn open(bytes: &'a mut [u8]) -> Result<Sheet<'a>, StoreFault>
         ensures opens { OpensSheet bytes.old result }
         ensures place { IfOk result (λ sheet. sheet.bytes.ghost_name ≡ bytes.entry.ghost_name) }
