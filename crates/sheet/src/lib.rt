@@ -18,7 +18,7 @@ const HEAD: usize = 16;
 const RECORD: usize = 80;
 
 // The lengths that a sheet may have.
-const SHORTEST: usize = 5216;
+const SHORTEST: usize = HEAD + 65 * RECORD;
 
 const LONGEST: usize = 65536;
 
@@ -126,6 +126,7 @@ fn copy_record(bytes: &mut [u8], from: usize, to: usize)
 }
 
 // Drops each record that is no docket or has a later one of its account, and answers how many are left.
+// By index, since the loop writes the bytes that it reads; `retain` is a Vec's, and there is no heap here.
 fn compact(bytes: &mut [u8], count: usize) -> usize
     requires { end_of count ≤ length bytes.old }
     ensures left { records 0 result bytes.new ≡ keep_last (records 0 count bytes.old) }
@@ -144,7 +145,7 @@ fn compact(bytes: &mut [u8], count: usize) -> usize
     place
 }
 
-// Counts the records.
+// Counts the records. Byte by byte, as their definition says it: a part that is copied in is no plainer.
 fn set_count(bytes: &mut [u8], count: usize)
     requires { (16 ≤ length bytes.old) × (count < 65536) }
     ensures { bytes.new ≡ counted count bytes.old }
@@ -263,7 +264,7 @@ impl<'a> MarkStore for Sheet<'a> {
         give(find(self.bytes, account), out)
     }
 
-    // The trait's promises, and what the host's bytes hold then.
+    // What the host's bytes hold then; clauses of a method's own stand for the trait's, so those are said again.
     fn write(&mut self, docket: &Docket) -> bool
         ensures answer { result ≡ write_answer (row_on (lent self.old)) docket.now }
         ensures marks { (a : ℕ) → mark_on (lent self.new) a ≡ mark_after (mark_on (lent self.old)) (row_on (lent self.old)) docket.now a }
