@@ -1,8 +1,8 @@
 -- What tables of marks hold, and keep. Assumes nothing.
-use Rattle.std.proofs.Common.{◌≡◌, ℕ, zero, suc, ◌+◌, ◌≤◌, Bool, true, false, cond, not, ◌&&◌, ltb, List, [], ◌∷◌, length, get_or, replicate, set, refl, sym, ap, ◌∙◌, subst, inl, inr, arith, Some, None, Ok, Err}
-use Rattle.std.specs.Prelude.{is_some, IfSome, is_ok, is_err, Option, Result, OnOk, nat_lt}
+use Rattle.std.proofs.Common.{◌≡◌, ℕ, zero, suc, ◌+◌, ◌≤◌, Bool, true, false, cond, not, ltb, List, [], ◌∷◌, length, get_or, replicate, set, refl, sym, ap, ◌∙◌, subst, inl, inr, arith, Some, None, Ok, Err}
+use Rattle.std.specs.Prelude.{is_some, IfSome, is_ok, Option, Result, OnOk, nat_lt}
 use Rattle.std.proofs.lemmas.List.{length-set, get_or-replicate, get_or_past, length-replicate}
-use Rattle.std.proofs.lemmas.Bool.{and_parts, and_from, eq-eqb, le-ltb, cases_lt, cond-false, and_right, false≢true}
+use Rattle.std.proofs.lemmas.Bool.{and_parts, and_from, eq-eqb, le-ltb, cases_lt, false≢true}
 use Rattle.refusals.specs.Reading.{Reading, found, and_then, judged}
 use Rattle.refusals.specs.declared.Layer.TheVariants as layer
 use Rattle.refusals.specs.declared.Cause.TheVariants as cause
@@ -13,8 +13,7 @@ use Rattle.docket.specs.Layout.{wrong_place, unless_wrong, encoded, Sized, read_
 use Rattle.docket.proofs.RoundTrip.{reads, length_encoded, read_says}
 use Rattle.docket.specs.Layout as docket
 use Rattle.marks.specs.Kept.{formed, some_not_none, account_of_lem, mark_at}
-use Rattle.marks.specs.Marks.{well_formed, mark_after, is_mark, are_marks, Marked}
-use Rattle.marks.specs.Outcomes.{End, lands, next_outcome}
+use Rattle.marks.specs.Marks.{well_formed, is_mark, are_marks, Marked}
 
 marks_set : (k : ℕ) (ms : List (Option Docket)) (a : ℕ) (d : Docket) → are_marks k ms ≡ true → d.account ≡ k + a → well_formed d ≡ true → are_marks k (set ms a (Some d)) ≡ true
 marks_set k [] a d h e w = refl
@@ -38,22 +37,10 @@ unmarked n a =
       | inr h ↦ get_or_past (replicate n None) a None (let l = length-replicate n none in omega arith)
     ]
 
--- a write that does not land changes nothing
-pub not_landed :
-    (mark : ℕ → Option Docket) (row : List End) (d : Docket) (a : ℕ) → (well_formed d && lands (next_outcome row)) ≡ false → mark a ≡ mark_after mark row d a
-not_landed mark row d a o = sym (cond-false _ (Some d) (mark a) (and_right _ _ o))
-
 -- what the docket's writer answers tells whether the docket is well formed
 ok_judged : {T E : Type 0} (reading : E → Reading) (r : Result T E) → is_ok (judged reading r) ≡ is_ok r
 ok_judged reading (Ok x) = refl
 ok_judged reading (Err e) = refl
-
-ok_err : {T E : Type 0} (r : Result T E) → is_ok r ≡ not (is_err r)
-ok_err (Ok x) = refl
-ok_err (Err e) = refl
-
-pub read_ok : (r : Result Docket DocketFault) (x : Result Docket Reading) (b : Bool) → judged docket_reading r ≡ x → b ≡ is_err r → is_ok x ≡ not b
-read_ok r x b e h = sym (ap is_ok e) ∙ (ok_judged docket_reading r ∙ (ok_err r ∙ ap not (sym h)))
 
 pub made_ok : {T E : Type 0} (P : Type 0) (r : Result T E) → is_ok r ≡ true → OnOk r (P) → P
 made_ok P (Ok x) h m = m

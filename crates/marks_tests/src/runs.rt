@@ -95,7 +95,7 @@ fn the_longest_row(rt: HostRuntime) -> Result<(), Fail> {
 fn lay(bytes: &mut [u8; 65537], at: u16, value: u8) {
     bytes[3] = 1;
     bytes[16..96].copy_from_slice(&docket(5, 1).to_bytes());
-    bytes[at as usize] = value;
+    bytes[usize::from(at)] = value;
 }
 
 // The first bytes are a sheet, or are refused and stay as they were.

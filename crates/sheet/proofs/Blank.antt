@@ -1,15 +1,10 @@
 -- Blank bytes, and parts of them. Assumes nothing.
-use Rattle.std.proofs.Common.{◌≡◌, ℕ, zero, suc, ◌-◌, ◌≤◌, true, ◌&&◌, eqb, List, [], ◌∷◌, length, drop, replicate, sym, refl, ap, ◌∙◌, arith}
-use Rattle.std.specs.List.{list_all}
+use Rattle.std.proofs.Common.{◌≡◌, ℕ, zero, suc, ◌-◌, ◌≤◌, true, eqb, List, [], ◌∷◌, length, drop, replicate, sym, refl, ap, ◌∙◌, arith}
 use Rattle.std.proofs.lemmas.List.{length-append, length-take, length-drop}
 use Rattle.std.proofs.lemmas.Slice.{between_to_end, between-put_mid}
 use borrow.Rule.Slice.PartMut.{put_mid}
 use Rattle.std.proofs.lemmas.Bool.{and_parts}
-use Rattle.docket.specs.Layout.{blank}
-
-pub blank_is : (l : List ℕ) → list_all (λ b. eqb b 0) l ≡ blank l
-blank_is [] = refl
-blank_is (x ∷ l) = ap (λ b. eqb x 0 && b) (blank_is l)
+use Rattle.layout.specs.Bytes.{blank}
 
 blank_zeros : (n : ℕ) → blank (replicate n 0) ≡ true
 blank_zeros zero = refl

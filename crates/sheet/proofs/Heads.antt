@@ -4,7 +4,7 @@ use Rattle.std.specs.List.{between}
 use Rattle.std.proofs.lemmas.List.{length-set, get_or-set_same, get_or-set_other, get_or-take, drop-set-lt, take-take}
 use Rattle.std.proofs.lemmas.Slice.{between_is}
 use Rattle.std.proofs.lemmas.Bool.{and_parts, and_from, leb-true, le-leb}
-use Rattle.docket.specs.Layout.{blank}
+use Rattle.layout.specs.Bytes.{blank}
 use Rattle.sheet.specs.Sheet.{count_of, end_of, fit, records, counted, SameHead}
 use Rattle.sheet.proofs.Places.{records_same}
 

@@ -1,11 +1,12 @@
 -- What a sheet means after a write, and after a list of them. Assumes nothing.
-use Rattle.std.proofs.Common.{◌≡◌, ℕ, ◌≤◌, Bool, true, false, cond, ◌&&◌, eqb, List, [], ◌∷◌, ◌++◌, length, take, IfSome, is_ok, Some, None, Ok, Err, Option, Result, sym, refl, ap, ◌∙◌, subst, inl, inr, arith, MatchOption, MatchResult}
+use Rattle.std.proofs.Common.{◌≡◌, ℕ, ◌≤◌, Bool, true, false, cond, ◌&&◌, eqb, List, [], ◌∷◌, ◌++◌, length, take, IfSome, is_ok, Some, None, Ok, Err, Option, Result, sym, refl, ap, ◌∙◌, inl, inr, arith, MatchOption, MatchResult}
 use Rattle.std.specs.Option.{option_or}
-use Rattle.std.proofs.lemmas.Bool.{and_parts, and_from, and_left, and_right, eq-eqb, ne_eqb, cases_eq, cases_Bool, cond-true, cond-false, false≢true}
+use Rattle.std.proofs.lemmas.Bool.{and_parts, and_from, and_left, eq-eqb, ne_eqb, cases_eq, cases_Bool, cond-true, cond-false, false≢true}
 use Rattle.docket.specs.declared.Docket.{Docket}
-use Rattle.docket.specs.Layout.{blank, read_docket, encoded}
-use Rattle.marks.specs.Outcomes.{lands, stands, next_outcome, rest_of_row, End, barred}
-use Rattle.marks.specs.Marks.{well_formed, write_answer, mark_after, row_after}
+use Rattle.layout.specs.Bytes.{blank}
+use Rattle.docket.specs.Layout.{read_docket, encoded}
+use Rattle.marks.specs.Outcomes.{rest_of_row}
+use Rattle.marks.specs.Marks.{well_formed, write_answer, mark_after}
 use Rattle.sheet.specs.Sheet.{count_of, end_of, fit, of_account, last_of, stays_by, keep_last, contents, with_room, owner_on, mark_on, row_on, head_clear, all_read, rest_clear, well_laid, SameHead, Wrote, Written, marks_after, lent, OpensSheet, Lasts, laid_out, IsMadeOf}
 use Rattle.marks.specs.declared.fault.StoreFault.{StoreFault}
 use Rattle.sheet.specs.declared.Parts.{Parts}
@@ -13,7 +14,6 @@ use Rattle.sheet.specs.declared.Sheet.{Sheet}
 use Rattle.sheet.proofs.Found.{or_assoc}
 use Rattle.sheet.proofs.Places.{or_none}
 use Rattle.sheet.proofs.Keeping.{kept_last}
-use Rattle.marks.proofs.Kept.{not_landed}
 use Rattle.sheet.specs.Own.{on_is}
 use Rattle.sheet.proofs.Heads.{fits, fits_from, head_taken}
 use Rattle.std.proofs.lemmas.List.{take-take}
@@ -113,48 +113,6 @@ module _ (was room now' : List ℕ) (d : Docket) (w : well_formed d ≡ true) (f
         marks = λ a. mark_now a ∙ (after_standing (mark_on was) d a w ∙ ap (λ row. mark_after (mark_on was) row d a) (sym (row_of was f)));
         laid = laid_now head rest;
       }
-
--- what cannot be written changes nothing
-pub wrote_malformed : (bs : List ℕ) (d : Docket) → well_formed d ≡ false → Wrote bs d bs
-wrote_malformed bs d w =
-    record {
-      same = λ _. refl;
-      size = refl;
-      rows = sym (cond-false _ (with_room bs ++ encoded d ∷ []) (contents bs) (and_left _ _ w));
-      owner = refl;
-      row = sym (cond-false _ _ _ w);
-      marks = λ a. not_landed (mark_on bs) (row_on bs) d a (and_left _ _ w);
-      laid = λ l. l;
-    }
-
-barred_row : (bs : List ℕ) → fit bs ≡ false → row_on bs ≡ barred ∷ []
-barred_row bs f = cond-false _ _ _ f
-
-either : (b : Bool) (row : List End) → row ≡ cond b row row
-either true row = refl
-either false row = refl
-
-pub wrote_unfit : (bs : List ℕ) (d : Docket) → fit bs ≡ false → Wrote bs d bs
-wrote_unfit bs d f =
-    let e = barred_row bs f in
-    record {
-      same = λ _. refl;
-      size = refl;
-      rows = sym (cond-false _ (with_room bs ++ encoded d ∷ []) (contents bs) (and_right _ _ f));
-      owner = refl;
-      row = subst (λ row. row ≡ row_after row d) (sym e) (either (well_formed d) (barred ∷ []));
-      marks = λ a. not_landed (mark_on bs) (row_on bs) d a (and_right _ _ (ap (λ row. lands (next_outcome row)) e));
-      laid = λ l. l;
-    }
-
-pub answer_malformed : (bs : List ℕ) (d : Docket) → well_formed d ≡ false → false ≡ write_answer (row_on bs) d
-answer_malformed bs d w = sym (and_left _ _ w)
-
-pub answer_unfit : (bs : List ℕ) (d : Docket) → fit bs ≡ false → false ≡ write_answer (row_on bs) d
-answer_unfit bs d f = sym (and_right _ _ (ap (λ row. stands (next_outcome row)) (barred_row bs f)))
-
-pub answer_stood : (bs : List ℕ) (d : Docket) → well_formed d ≡ true → fit bs ≡ true → true ≡ write_answer (row_on bs) d
-answer_stood bs d w f = sym (and_from _ _ w (ap (λ row. stands (next_outcome row)) (row_of bs f)))
 
 -- after any list of writes
 marks_same : (f g : ℕ → Option Docket) (ds : List Docket) → ((a : ℕ) → f a ≡ g a) → (a : ℕ) → marks_after f ds a ≡ marks_after g ds a

@@ -5,7 +5,8 @@ use Rattle.std.proofs.lemmas.List.{drop-drop, drop_all, append-nil}
 use Rattle.std.proofs.lemmas.Slice.{drop-put_mid}
 use Rattle.std.proofs.lemmas.Bool.{lt-leb, le-ltb, cond-false}
 use Rattle.docket.specs.declared.Docket.{Docket}
-use Rattle.docket.specs.Layout.{blank, encoded}
+use Rattle.layout.specs.Bytes.{blank}
+use Rattle.docket.specs.Layout.{encoded}
 use Rattle.docket.specs.Layout as docket
 use Rattle.marks.specs.Marks.{well_formed}
 use Rattle.sheet.specs.Sheet.{count_of, end_of, record_at, records, keep_last, counted, contents, with_room, rest_clear, SameHead}

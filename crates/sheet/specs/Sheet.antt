@@ -5,7 +5,8 @@ use Rattle.std.specs.List.{between}
 use Rattle.std.specs.Option.{option_or}
 use Rattle.refusals.specs.Reading.{Reading}
 use Rattle.docket.specs.declared.Docket.{Docket}
-use Rattle.docket.specs.Layout.{blank, read_docket, encoded}
+use Rattle.layout.specs.Bytes.{blank}
+use Rattle.docket.specs.Layout.{read_docket, encoded}
 use Rattle.marks.specs.Marks.{well_formed, write_answer, mark_after, row_after}
 use Rattle.marks.specs.Outcomes.{End, barred}
 use Rattle.marks.specs.declared.fault.StoreFault.{StoreFault}

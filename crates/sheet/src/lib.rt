@@ -2,12 +2,14 @@
 #![tactic(auto)]
 
 ghost use Rattle.std.specs.Prelude.{◌≡◌, ℕ, ◌+◌, ◌-◌, ◌^◌, ◌<◌, ◌≤◌, true, ◌&&◌, [], ◌∷◌, ◌++◌, length, take, drop, IfOk, Ok, ◌≢◌, false, MatchOption};
-ghost use Rattle.docket.specs.Layout.{blank, read_docket, encoded};
+ghost use Rattle.layout.specs.Bytes.{blank};
+ghost use Rattle.docket.specs.Layout.{read_docket, encoded};
 ghost use Rattle.sheet.specs.Sheet.{count_of, end_of, fit, record_at, records, of_account, last_of, stays_by, keep_last, counted, contents, with_room, owner_on, mark_on, row_on, head_clear, all_read, laid_out, IsMadeOf, rest_clear, well_laid, SameHead, Wrote, Lasts, lent, OpensSheet};
 ghost use Rattle.sheet.specs.Own.{mark_on_lem};
 ghost use Rattle.marks.specs.Marks.{well_formed, write_answer, mark_after, row_after};
 
 use docket::Docket;
+use layout::is_blank;
 use marks::{MarkStore, StoreFault, give, is_well_formed};
 
 // The bytes of the head, and those of a record.
@@ -16,7 +18,7 @@ const HEAD: usize = 16;
 const RECORD: usize = 80;
 
 // The lengths that a sheet may have.
-const SHORTEST: usize = 5216;
+const SHORTEST: usize = HEAD + 65 * RECORD;
 
 const LONGEST: usize = 65536;
 
@@ -124,6 +126,7 @@ fn copy_record(bytes: &mut [u8], from: usize, to: usize)
 }
 
 // Drops each record that is no docket or has a later one of its account, and answers how many are left.
+// By index, since the loop writes the bytes that it reads; `retain` is a Vec's, and there is no heap here.
 fn compact(bytes: &mut [u8], count: usize) -> usize
     requires { end_of count ≤ length bytes.old }
     ensures left { records 0 result bytes.new ≡ keep_last (records 0 count bytes.old) }
@@ -142,7 +145,7 @@ fn compact(bytes: &mut [u8], count: usize) -> usize
     place
 }
 
-// Counts the records.
+// Counts the records. Byte by byte, as their definition says it: a part that is copied in is no plainer.
 fn set_count(bytes: &mut [u8], count: usize)
     requires { (16 ≤ length bytes.old) × (count < 65536) }
     ensures { bytes.new ≡ counted count bytes.old }
@@ -159,13 +162,6 @@ fn clear_rest(bytes: &mut [u8], count: usize)
     ensures rest { blank (drop (end_of count) bytes.new) ≡ true }
 {
     bytes[end_of(count)..].fill(0);
-}
-
-// Whether every byte is zero.
-fn is_blank(bytes: &[u8]) -> bool
-    ensures { result ≡ blank bytes.now }
-{
-    bytes.iter().all(|b| *b == 0)
 }
 
 // Makes space for another record, where there is none, by dropping those that have a later one of their account.
@@ -207,10 +203,7 @@ fn write_mark(bytes: &mut [u8], docket: &Docket) -> bool
     ensures answer { result ≡ write_answer (row_on bytes.old) docket.now }
     ensures wrote { Wrote bytes.old docket.now bytes.new }
 {
-    if !is_well_formed(docket) {
-        return false;
-    }
-    if Parts::of(bytes).is_none() {
+    if !is_well_formed(docket) || Parts::of(bytes).is_none() {
         return false;
     }
     make_room(bytes);
@@ -240,6 +233,7 @@ pub struct Sheet<'a> {
 impl<'a> Sheet<'a> {
     // Refuses bytes of wrong length or layout. What is written through the sheet is there when the bytes are opened
     // again, with the same owner.
+    #[tactic(auto, using(crate::proofs::Lasting::lasts))]
     pub fn open(bytes: &'a mut [u8]) -> Result<Sheet<'a>, StoreFault>
         ensures opens { OpensSheet bytes.old result }
         ensures place { IfOk result (λ sheet. sheet.bytes.ghost_name ≡ bytes.entry.ghost_name) }
@@ -270,7 +264,7 @@ impl<'a> MarkStore for Sheet<'a> {
         give(find(self.bytes, account), out)
     }
 
-    // The trait's promises, and what the host's bytes hold then.
+    // What the host's bytes hold then; clauses of a method's own stand for the trait's, so those are said again.
     fn write(&mut self, docket: &Docket) -> bool
         ensures answer { result ≡ write_answer (row_on (lent self.old)) docket.now }
         ensures marks { (a : ℕ) → mark_on (lent self.new) a ≡ mark_after (mark_on (lent self.old)) (row_on (lent self.old)) docket.now a }

@@ -1,7 +1,7 @@
 use Rattle.std.proofs.Common.{◌≡◌, ◌-◌, length, drop, replicate, sym, ap, ◌∙◌, arith, rules}
 use borrow.Rule.Slice.PartMut.{put_mid}
 use Rattle.std.proofs.lemmas.Slice.{take-put_mid_below}
-use Rattle.docket.specs.Layout.{blank}
+use Rattle.layout.specs.Bytes.{blank}
 use Rattle.sheet.specs.Sheet.{end_of}
 use Rattle.sheet.proofs.Blank.{rest_put, blank_filled}
 use Rattle.sheet.proofs.clear_rest.Goals as goal

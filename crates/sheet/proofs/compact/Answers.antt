@@ -22,13 +22,9 @@ loop-i-preserved c =
           w.bytes-is w.place-is
     ]
 
-pub returns : goal.returns
-returns c =
-    let inv = c.loop-i.invariant in
-    let left = keep_all c.loop-i.i c.args.count c.loop-i.place c.loop-i.bytes _ (omega arith) inv.0 in
-    record {
-      left = left;
-      few = few_left c.loop-i.place c.loop-i.bytes (records 0 c.args.count c.args.bytes.now) left;
-      fewer = omega (arith, inv.1);
-      head = inv.2;
-    }
+pub returns-clause-left : goal.returns-clause-left
+returns-clause-left c = keep_all c.loop-i.i c.args.count c.loop-i.place c.loop-i.bytes _ (omega arith) c.loop-i.invariant.0
+
+pub returns-clause-few : goal.returns-clause-few
+returns-clause-few c =
+    few_left c.loop-i.place c.loop-i.bytes (records 0 c.args.count c.args.bytes.now) (keep_all c.loop-i.i c.args.count c.loop-i.place c.loop-i.bytes _ (omega arith) c.loop-i.invariant.0)
