@@ -1,4 +1,5 @@
 mod Laid
 mod Levels
 mod Steps
+mod Parsed
 mod Judged

@@ -2,7 +2,7 @@
 use Rattle.std.specs.Prelude.{ℕ, zero, suc, ◌+◌, ◌-◌, ◌*◌, List, [], ◌∷◌, ◌++◌, slice_index}
 use Rattle.lms.specs.Hashes.{head, u16}
 use Rattle.sha256.specs.Digest.{sha256}
-use Rattle.std.specs.List.{between}
+use Rattle.std.specs.List.{between, sum_by}
 
 -- step `j` of the chain whose inputs begin with `front`
 abbrev pub step : List ℕ → ℕ → List ℕ → List ℕ
@@ -17,9 +17,9 @@ steps front (suc n) j value = steps front n (j + 1) (step front j value)
 abbrev pub chained : List ℕ → ℕ → ℕ → List ℕ → List ℕ
 chained front from to value = steps front (to - from) from value
 
-unfoldable pub checksum : List ℕ → ℕ
-checksum [] = 0
-checksum (digit ∷ digits) = 255 - digit + checksum digits
+-- how far the digits are from the last step, in all
+abbrev pub checksum : List ℕ → ℕ
+checksum digits = sum_by (λ digit. 255 - digit) digits
 
 -- at W8 a digit is a byte: 32 of the hash and 2 of its checksum
 abbrev pub digits_of : List ℕ → List ℕ

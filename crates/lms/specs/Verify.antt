@@ -1,8 +1,10 @@
 -- Verifying by RFC 8554 with LMS type 6 (SHA-256, height 10) and LM-OTS type 4 (SHA-256, W8).
-use Rattle.std.specs.Prelude.{ℕ, ◌+◌, Bool, ◌&&◌, List, length, ◌==◌, nat_lt}
+use Rattle.std.specs.Prelude.{◌≡◌, ℕ, ◌+◌, Bool, ◌&&◌, List, length, ◌==◌, nat_lt}
 use Rattle.lms.specs.Chains.{digits_of, chain_ends}
 use Rattle.lms.specs.Hashes.{message_hash, one_time_key, leaf}
 use Rattle.lms.specs.Tree.{climbed}
+use Rattle.lms.specs.declared.verify.Key.{Key}
+use Rattle.lms.specs.declared.verify.Seal.{Seal}
 use Rattle.sha256.specs.Compression.{word_at}
 use Rattle.std.specs.List.{between}
 use Rattle.std.specs.Str.{bytes_eq}
@@ -27,12 +29,21 @@ values seal = between 40 1128 seal
 abbrev pub path : List ℕ → List ℕ
 path seal = between 1132 1452 seal
 
--- the lengths and the type words
-abbrev pub formed : List ℕ → List ℕ → Bool
-formed key seal =
-    (length key == 56) &&
-    (length seal == 1452 &&
-    (word_at key 0 == 6 && (word_at key 4 == 4 && (word_at seal 4 == 4 && word_at seal 1128 == 6))))
+-- the length and the types of a key
+abbrev pub is_key : List ℕ → Bool
+is_key key = (length key == 56) && (word_at key 0 == 6 && word_at key 4 == 4)
+
+-- the length and the types of a seal, which is by one of the 1,024 leaves
+abbrev pub is_seal : List ℕ → Bool
+is_seal seal = (length seal == 1452) && (word_at seal 4 == 4 && (word_at seal 1128 == 6 && nat_lt (leaf_number seal) 1024))
+
+-- the parts that were read from a key's and a seal's bytes
+abbrev pub IsKeyOf : List ℕ → Key → Type 0
+IsKeyOf bytes key = (key.id.now ≡ identifier bytes) × (key.root.now ≡ root bytes)
+
+abbrev pub IsSealOf : List ℕ → Seal → Type 0
+IsSealOf bytes seal =
+    (seal.leaf ≡ leaf_number bytes) × (seal.randomizer.now ≡ randomizer bytes) × (seal.values.now ≡ values bytes) × (seal.path.now ≡ path bytes)
 
 -- the one-time public key that a text and a seal lead to
 abbrev pub candidate_key : List ℕ → List ℕ → List ℕ → List ℕ
@@ -47,5 +58,4 @@ candidate I text seal =
     climbed I 10 r (leaf I r (candidate_key I text seal)) (path seal)
 
 unfoldable pub verifies : List ℕ → List ℕ → List ℕ → Bool
-verifies key text seal =
-    formed key seal && (nat_lt (leaf_number seal) 1024 && bytes_eq (candidate (identifier key) text seal) (root key))
+verifies key text seal = is_key key && (is_seal seal && bytes_eq (candidate (identifier key) text seal) (root key))

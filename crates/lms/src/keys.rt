@@ -1,18 +1,20 @@
 // A checker over the keys of all parties.
-ghost use Rattle.lms.specs.Keys.{lent, Opens, good_under};
+ghost use Rattle.std.specs.Prelude.{◌≡◌, ◌<◌, ◌≤◌, MatchOption};
+ghost use Rattle.lms.specs.Keys.{lent, Opens, key_of, good_under};
 
 use super::verify::is_verified;
 use seals::{Checker, CheckerFault};
 
-// The bytes of a key, and of the keys of parties 0 to 76.
+// The bytes of a key.
 const KEY: usize = 56;
 
-const KEYS: usize = 4312;
+/// The bytes of the keys of parties 0 to 76.
+pub const KEYS: usize = 4312;
 
-// The keys' bytes are lent; no fact is kept of them, so every call is right over any bytes.
+// The keys' bytes are lent, and no fact is kept of what they hold.
 #[derive(Clone, Copy)]
 pub struct Keys<'a> {
-    bytes: &'a [u8],
+    bytes: &'a [u8; KEYS],
 }
 
 impl<'a> Keys<'a> {
@@ -20,10 +22,9 @@ impl<'a> Keys<'a> {
     pub fn open(bytes: &'a [u8]) -> Result<Keys<'a>, CheckerFault>
         ensures { Opens bytes.now result }
     {
-        if bytes.len() == KEYS {
-            Ok(Keys { bytes })
-        } else {
-            Err(CheckerFault::Layout)
+        match bytes.as_array::<KEYS>() {
+            Some(bytes) => Ok(Keys { bytes }),
+            None => Err(CheckerFault::Layout),
         }
     }
 }
@@ -32,13 +33,16 @@ impl<'a> Checker for Keys<'a> {
     ghost good = { λ keys. good_under (lent keys) };
 
     fn check(&self, party: u8, text: &[u8], seal: &[u8]) -> bool {
-        if party > 76 {
-            return false;
+        match key_of(self.bytes, party) {
+            Some(key) => is_verified(key, text, seal),
+            None => false,
         }
-        let start = KEY * usize::from(party);
-        if self.bytes.len() < start + KEY {
-            return false;
-        }
-        is_verified(&self.bytes[start..start + KEY], text, seal)
     }
+}
+
+fn key_of(keys: &[u8; KEYS], party: u8) -> Option<&[u8; KEY]>
+    ensures { MatchOption result (76 < party) (λ key. (party ≤ 76) × (key.now ≡ key_of party keys.now)) }
+{
+    let (keys, _) = keys.as_chunks::<KEY>();
+    keys.get(usize::from(party))
 }

@@ -7,4 +7,4 @@ mod keys;
 mod tree;
 mod verify;
 
-pub use keys::Keys;
+pub use keys::{KEYS, Keys};

@@ -1,38 +1,40 @@
 // From a leaf to the root.
-ghost use Rattle.std.specs.Prelude.{◌≡◌, ◌/◌, length};
+ghost use Rattle.std.specs.Prelude.{◌≡◌, ◌/◌};
 ghost use Rattle.lms.specs.Hashes.{node};
 ghost use Rattle.lms.specs.Tree.{parent, climbed};
 
-use super::hashes::{D_INTR, front, hash};
+use super::hashes::{D_INTR, Place, hash};
 
-fn node_of(id: &[u8], number: u32, left: &[u8], right: &[u8]) -> [u8; 32]
-    requires { length id.now ≡ 16 }
-    ensures { result ≡ node id.now number left.now right.now }
+fn node_of(place: &Place<'_>, left: &[u8; 32], right: &[u8; 32]) -> [u8; 32]
+    ensures { result ≡ node place.now.id.now place.now.number left.now right.now }
 {
-    hash(&front(id, number, D_INTR), left, right)
+    hash(&place.front(D_INTR), left, right)
 }
 
-fn parent_of(id: &[u8], number: u32, value: &[u8], sibling: &[u8]) -> [u8; 32]
-    requires { length id.now ≡ 16 }
-    ensures { result ≡ parent id.now number value.now sibling.now }
+// The node above a place, from its value and its sibling's.
+fn parent_of(place: &Place<'_>, value: &[u8; 32], sibling: &[u8; 32]) -> [u8; 32]
+    ensures { result ≡ parent place.now.id.now place.now.number value.now sibling.now }
 {
-    if number % 2 == 1 {
-        node_of(id, number / 2, sibling, value)
+    let above = Place {
+        number: place.number / 2,
+        ..*place
+    };
+    if place.number % 2 == 1 {
+        node_of(&above, sibling, value)
     } else {
-        node_of(id, number / 2, value, sibling)
+        node_of(&above, value, sibling)
     }
 }
 
-// From node `first` up along a path of siblings.
-pub fn climb(id: &[u8], first: u32, leaf: [u8; 32], path: &[u8]) -> [u8; 32]
-    requires { length id.now ≡ 16 }
-    ensures { result ≡ climbed id.now (length path.now / 32) first leaf path.now }
+// From a node up along a path of siblings.
+pub fn climb(first: &Place<'_>, leaf: [u8; 32], path: &[u8; 320]) -> [u8; 32]
+    ensures { result ≡ climbed first.now.id.now 10 first.now.number leaf path.now }
 {
-    let mut number = first;
+    let (siblings, _) = path.as_chunks::<32>();
+    let mut number = first.number;
     let mut value = leaf;
-    for sibling in path.chunks_exact(32) {
-        let next = parent_of(id, number, &value, sibling);
-        value = next;
+    for sibling in siblings {
+        value = parent_of(&Place { number, ..*first }, &value, sibling);
         number /= 2;
     }
     value

@@ -1,81 +1,128 @@
 // Whether a seal verifies under a key.
-ghost use Rattle.std.specs.Prelude.{◌≡◌, ◌+◌, ◌<◌, ◌≤◌, length, nat_lt};
+ghost use Rattle.std.specs.Prelude.{◌≡◌, ℕ, ◌<◌, List, false, true, MatchOption};
 ghost use Rattle.lms.specs.Hashes.{message_hash, leaf};
-ghost use Rattle.lms.specs.Verify.{formed, leaf_number, randomizer, candidate_key, candidate, verifies};
-ghost use Rattle.sha256.specs.Compression.{word_at};
+ghost use Rattle.lms.specs.Verify.{is_key, is_seal, IsKeyOf, IsSealOf, candidate_key, candidate, verifies};
 
 use super::chains::{digits_of, one_time_key};
-use super::hashes::{D_LEAF, D_MESG, front, hash};
+use super::hashes::{D_LEAF, D_MESG, Place, hash};
 use super::tree::climb;
 
-// The number that four bytes from `at` on stand for.
-fn word(bytes: &[u8], at: usize) -> u32
-    requires { at + 4 ≤ length bytes.now }
-    ensures { result ≡ word_at bytes.now at }
-{
-    u32::from_be_bytes([bytes[at], bytes[at + 1], bytes[at + 2], bytes[at + 3]])
+// SHA-256 at height 10, and at W8.
+const LMS_TYPE: u32 = 6;
+
+const ONE_TIME_TYPE: u32 = 4;
+
+// The leaves of the tree, which are its nodes from this number on.
+const LEAVES: u32 = 1024;
+
+// The parts of a key of types 6 and 4.
+#[derive(Clone, Copy)]
+struct Key<'a> {
+    id: &'a [u8; 16],
+    root: &'a [u8; 32],
 }
 
-// The lengths and the type words are those of types 6 and 4.
-fn is_formed(key: &[u8], seal: &[u8]) -> bool
-    ensures { result ≡ formed key.now seal.now }
-{
-    if key.len() != 56 || seal.len() != 1452 {
-        return false;
+// The parts of a seal of types 6 and 4 by one of the leaves.
+#[derive(Clone, Copy)]
+struct Seal<'a> {
+    leaf: u32,
+    randomizer: &'a [u8; 32],
+    values: &'a [u8; 1088],
+    path: &'a [u8; 320],
+}
+
+impl<'a> Key<'a> {
+    // None where the length or a type is another.
+    fn parse(bytes: &'a [u8]) -> Option<Key<'a>>
+        ensures { MatchOption result (is_key bytes.now ≡ false) (λ key. (is_key bytes.now ≡ true) × IsKeyOf bytes.now key) }
+    {
+        let (lms_type, rest) = bytes.split_first_chunk::<4>()?;
+        let (one_time_type, rest) = rest.split_first_chunk::<4>()?;
+        let (id, rest) = rest.split_first_chunk::<16>()?;
+        let root = rest.as_array::<32>()?;
+        if u32::from_be_bytes(*lms_type) == LMS_TYPE
+            && u32::from_be_bytes(*one_time_type) == ONE_TIME_TYPE
+        {
+            Some(Key { id, root })
+        } else {
+            None
+        }
     }
-    word(key, 0) == 6 && word(key, 4) == 4 && word(seal, 4) == 4 && word(seal, 1128) == 6
 }
 
-// The tree has 1,024 leaves.
-fn is_leaf(q: u32) -> bool
-    ensures { result ≡ nat_lt q 1024 }
-{
-    q < 1024
+impl<'a> Seal<'a> {
+    // None where the length, a type or the leaf's number is another.
+    fn parse(bytes: &'a [u8]) -> Option<Seal<'a>>
+        ensures { MatchOption result (is_seal bytes.now ≡ false) (λ seal. (is_seal bytes.now ≡ true) × ((seal.leaf < 1024) × IsSealOf bytes.now seal)) }
+    {
+        let (number, rest) = bytes.split_first_chunk::<4>()?;
+        let (one_time_type, rest) = rest.split_first_chunk::<4>()?;
+        let (randomizer, rest) = rest.split_first_chunk::<32>()?;
+        let (values, rest) = rest.split_first_chunk::<1088>()?;
+        let (tree_type, rest) = rest.split_first_chunk::<4>()?;
+        let path = rest.as_array::<320>()?;
+        let leaf = u32::from_be_bytes(*number);
+        if u32::from_be_bytes(*one_time_type) == ONE_TIME_TYPE
+            && u32::from_be_bytes(*tree_type) == LMS_TYPE
+            && leaf < LEAVES
+        {
+            Some(Seal {
+                leaf,
+                randomizer,
+                values,
+                path,
+            })
+        } else {
+            None
+        }
+    }
+
+    // The one-time public key that a text and the seal lead to.
+    fn candidate_key(&self, id: &[u8; 16], text: &[u8]) -> [u8; 32]
+        ensures { (bytes : List ℕ) → IsSealOf bytes self.now → result ≡ candidate_key id.now text.now bytes }
+    {
+        let leaf = Place {
+            id,
+            number: self.leaf,
+        };
+        let digits = digits_of(&message_hash(&leaf, self.randomizer, text));
+        one_time_key(&leaf, &digits, self.values)
+    }
+
+    // The root that a text and the seal lead to.
+    fn candidate_root(&self, id: &[u8; 16], text: &[u8]) -> [u8; 32]
+        requires { self.now.leaf < 1024 }
+        ensures { (bytes : List ℕ) → IsSealOf bytes self.now → result ≡ candidate id.now text.now bytes }
+    {
+        let node = Place {
+            id,
+            number: LEAVES + self.leaf,
+        };
+        let leaf = leaf_of(&node, &self.candidate_key(id, text));
+        climb(&node, leaf, self.path)
+    }
 }
 
-fn message_hash(id: &[u8], q: u32, seal: &[u8], text: &[u8]) -> [u8; 32]
-    requires { (length id.now ≡ 16) × (length seal.now ≡ 1452) }
-    ensures { result ≡ message_hash id.now q (randomizer seal.now) text.now }
+fn message_hash(leaf: &Place<'_>, randomizer: &[u8; 32], text: &[u8]) -> [u8; 32]
+    ensures { result ≡ message_hash leaf.now.id.now leaf.now.number randomizer.now text.now }
 {
-    hash(&front(id, q, D_MESG), &seal[8..40], text)
+    hash(&leaf.front(D_MESG), randomizer, text)
 }
 
-fn leaf_of(id: &[u8], number: u32, key: &[u8; 32]) -> [u8; 32]
-    requires { length id.now ≡ 16 }
-    ensures { result ≡ leaf id.now number key.now }
+fn leaf_of(node: &Place<'_>, key: &[u8; 32]) -> [u8; 32]
+    ensures { result ≡ leaf node.now.id.now node.now.number key.now }
 {
-    hash(&front(id, number, D_LEAF), key, &[])
-}
-
-// The one-time public key that a text and a seal lead to.
-fn candidate_key(id: &[u8], text: &[u8], seal: &[u8]) -> [u8; 32]
-    requires { (length id.now ≡ 16) × (length seal.now ≡ 1452) }
-    ensures { result ≡ candidate_key id.now text.now seal.now }
-{
-    let q = word(seal, 0);
-    let digits = digits_of(&message_hash(id, q, seal, text));
-    one_time_key(id, q, &digits, &seal[40..1128])
-}
-
-// The root that a text and a seal lead to.
-fn candidate_root(id: &[u8], text: &[u8], seal: &[u8]) -> [u8; 32]
-    requires { (length id.now ≡ 16) × ((length seal.now ≡ 1452) × (leaf_number seal.now < 1024)) }
-    ensures { result ≡ candidate id.now text.now seal.now }
-{
-    let number = 1024 + word(seal, 0);
-    let leaf = leaf_of(id, number, &candidate_key(id, text, seal));
-    climb(id, number, leaf, &seal[1132..1452])
+    hash(&node.front(D_LEAF), key, &[])
 }
 
 pub fn is_verified(key: &[u8], text: &[u8], seal: &[u8]) -> bool
     ensures { result ≡ verifies key.now text.now seal.now }
 {
-    if !is_formed(key, seal) {
+    let Some(key) = Key::parse(key) else {
         return false;
-    }
-    if !is_leaf(word(seal, 0)) {
+    };
+    let Some(seal) = Seal::parse(seal) else {
         return false;
-    }
-    let root = candidate_root(&key[8..24], text, seal);
-    root.as_slice() == &key[24..56]
+    };
+    seal.candidate_root(key.id, text) == *key.root
 }

@@ -1,5 +1,5 @@
--- Bytes in hexadecimal, and bytes written over others.
-use Rattle.std.specs.Prelude.{ℕ, zero, suc, ◌+◌, ◌-◌, ◌*◌, cond, ◌&&◌, List, [], ◌∷◌, ◌++◌, length, take, drop, nat_le, slice_index}
+-- Bytes in hexadecimal.
+use Rattle.std.specs.Prelude.{ℕ, zero, suc, ◌+◌, ◌-◌, ◌*◌, cond, ◌&&◌, List, [], ◌∷◌, drop, nat_le, slice_index}
 
 -- a digit's value; any other character counts as 0
 abbrev pub value_of : ℕ → ℕ
@@ -9,8 +9,3 @@ value_of b = cond (nat_le 48 b && nat_le b 57) (b - 48) (cond (nat_le 97 b && na
 unfoldable pub unhex : ℕ → List ℕ → List ℕ
 unhex zero text = []
 unhex (suc n) text = (value_of (slice_index text 0) * 16 + value_of (slice_index text 1)) ∷ unhex n (drop 2 text)
-
--- `part` written over `bytes` from `at` on, where it fits
-abbrev pub overwritten : List ℕ → ℕ → List ℕ → List ℕ
-overwritten bytes at part =
-    cond (nat_le (at + length part) (length bytes)) (take at bytes ++ (part ++ drop (at + length part) bytes)) bytes

@@ -1,9 +1,10 @@
-// Bytes in hexadecimal, and bytes written over others.
-ghost use Rattle.std.specs.Prelude.{◌≡◌, ◌/◌, ◌<◌, length, IfOk};
-ghost use Rattle.lms_vectors.specs.Bytes.{value_of, unhex, overwritten};
+// Bytes in hexadecimal.
+ghost use Rattle.std.specs.Prelude.{◌≡◌, ◌+◌, ◌*◌, ◌/◌, ◌<◌, length, slice_index, IfOk};
+ghost use Rattle.lms_vectors.specs.Bytes.{value_of, unhex};
 
 use std::alloc::{AllocError, Global};
 
+// The kit's crate `hex` and `to_digit` read capitals and refuse what is no digit; here either counts as 0.
 fn value_of(digit: u8) -> u8
     ensures value { result ≡ value_of digit }
     ensures small { result < 16 }
@@ -15,22 +16,16 @@ fn value_of(digit: u8) -> u8
     }
 }
 
-pub fn from_hex(heap: Global, text: &[u8]) -> Result<Vec<u8>, AllocError>
-    ensures { IfOk result (λ v. v.items ≡ unhex (length text.now / 2) text.now) }
+fn byte_of(pair: &[u8; 2]) -> u8
+    ensures { result ≡ value_of (slice_index pair.now 0) * 16 + value_of (slice_index pair.now 1) }
 {
-    let mut bytes = Vec::new(heap);
-    for pair in text.chunks_exact(2) {
-        let high = value_of(pair[0]);
-        bytes.push(high * 16 + value_of(pair[1]))?;
-    }
-    Ok(bytes)
+    let [high, low] = *pair;
+    value_of(high) * 16 + value_of(low)
 }
 
-// Writes a part over others where it fits.
-pub fn overwrite(bytes: &mut [u8], at: usize, part: &[u8])
-    ensures { bytes.new ≡ overwritten bytes.old at part.now }
+pub fn from_hex(heap: Global, text: &str) -> Result<Vec<u8>, AllocError>
+    ensures { IfOk result (λ v. v.items ≡ unhex (length text.now / 2) text.now) }
 {
-    if at <= bytes.len() && part.len() <= bytes.len() - at {
-        bytes[at..at + part.len()].copy_from_slice(part);
-    }
+    let (pairs, _) = text.as_bytes().as_chunks::<2>();
+    pairs.iter().map(byte_of).collect(heap)
 }

@@ -10,18 +10,22 @@
 #![tactic(auto)]
 
 mod bytes;
+mod command;
 mod repeats;
 mod seals_check;
 
-use bytes::{from_hex, overwrite};
+use bytes::from_hex;
+use command::Command;
+use layout::put;
+use lms::KEYS;
 use repeats::{ramp, repeated_digest};
-use seals_check::{count_good, is_good};
+use seals_check::{KEY_START, count_good, is_good};
 use sha256::digest;
 use std::io::Read;
 
 #[derive(Drop)]
 struct Desk {
-    keys: [u8; 4312],
+    keys: [u8; KEYS],
     text: Vec<u8>,
     whole: Vec<u8>,
     seal: Vec<u8>,
@@ -35,60 +39,42 @@ fn print_digest(rt: &HostRuntime, digest: [u8; 32]) -> anyhow::Result<()> {
     Ok(())
 }
 
-fn hash_line(rt: &HostRuntime, word: &str, first: &str, second: &str) -> anyhow::Result<()> {
-    match word {
-        "hash" => print_digest(
-            rt,
-            digest(from_hex(rt.alloc(), first.as_bytes())?.as_slice()),
-        ),
-        "ramp" => print_digest(rt, repeated_digest(&ramp(), first.parse::<usize>()?)),
-        _ => {
-            let byte = from_hex(rt.alloc(), first.as_bytes())?;
-            let value = byte.first().copied().unwrap_or(0);
-            print_digest(rt, repeated_digest(&[value; 256], second.parse::<usize>()?))
-        }
-    }
+// Sets the next check's seal to the whole one.
+fn check(rt: &HostRuntime, desk: &mut Desk) -> anyhow::Result<()> {
+    let good = is_good(&desk.keys, desk.text.as_slice(), desk.seal.as_slice());
+    println!(rt; "{}", if good { "yes" } else { "no" })?;
+    desk.seal = desk.whole.clone()?;
+    Ok(())
 }
 
-fn seal_line(
-    rt: &HostRuntime,
-    desk: &mut Desk,
-    word: &str,
-    first: &str,
-    second: &str,
-) -> anyhow::Result<()> {
-    match word {
-        "key" => {
-            let key = from_hex(rt.alloc(), first.as_bytes())?;
-            overwrite(&mut desk.keys, 4256, key.as_slice());
+fn obey(rt: &HostRuntime, desk: &mut Desk, command: Command<'_>) -> anyhow::Result<()> {
+    let heap = rt.alloc();
+    match command {
+        Command::Nothing => {}
+        Command::Hash(text) => print_digest(rt, digest(from_hex(heap, text)?.as_slice()))?,
+        Command::Ramp(n) => print_digest(rt, repeated_digest(&ramp(), n))?,
+        Command::Fill(byte, n) => {
+            let value = from_hex(heap, byte)?.first().copied().unwrap_or(0);
+            print_digest(rt, repeated_digest(&[value; 256], n))?;
         }
-        "text" => desk.text = from_hex(rt.alloc(), first.as_bytes())?,
-        "seal" => {
-            desk.whole = from_hex(rt.alloc(), first.as_bytes())?;
+        Command::Key(key) => put(&mut desk.keys, KEY_START, from_hex(heap, key)?.as_slice()),
+        Command::Text(text) => desk.text = from_hex(heap, text)?,
+        Command::Seal(seal) => {
+            desk.whole = from_hex(heap, seal)?;
             desk.seal = desk.whole.clone()?;
         }
-        "put" => {
-            let part = from_hex(rt.alloc(), second.as_bytes())?;
-            overwrite(
+        Command::Put(at, part) => {
+            put(
                 desk.seal.as_mut_slice(),
-                first.parse::<usize>()?,
-                part.as_slice(),
+                at,
+                from_hex(heap, part)?.as_slice(),
             );
         }
-        "cut" => desk.seal.truncate(first.parse::<usize>()?),
-        "times" => {
-            let count = count_good(
-                &desk.keys,
-                desk.text.as_slice(),
-                desk.seal.as_slice(),
-                first.parse::<u32>()?,
-            );
+        Command::Cut(n) => desk.seal.truncate(n),
+        Command::Check => check(rt, desk)?,
+        Command::Times(n) => {
+            let count = count_good(&desk.keys, desk.text.as_slice(), desk.seal.as_slice(), n);
             println!(rt; "{count}")?;
-        }
-        _ => {
-            let good = is_good(&desk.keys, desk.text.as_slice(), desk.seal.as_slice());
-            println!(rt; "{}", if good { "yes" } else { "no" })?;
-            desk.seal = desk.whole.clone()?;
         }
     }
     Ok(())
@@ -98,21 +84,13 @@ fn run(rt: &HostRuntime) -> anyhow::Result<()> {
     let mut input = String::new(rt.alloc());
     rt.stdin().read_to_string(&mut input)?;
     let mut desk = Desk {
-        keys: [0; 4312],
+        keys: [0; KEYS],
         text: Vec::new(rt.alloc()),
         whole: Vec::new(rt.alloc()),
         seal: Vec::new(rt.alloc()),
     };
     for line in input.as_str().lines() {
-        let mut words = line.split(' ');
-        let word = words.next().unwrap_or("");
-        let first = words.next().unwrap_or("");
-        let second = words.next().unwrap_or("");
-        match word {
-            "" => {}
-            "hash" | "ramp" | "fill" => hash_line(rt, word, first, second)?,
-            _ => seal_line(rt, &mut desk, word, first, second)?,
-        }
+        obey(rt, &mut desk, Command::parse(line)?)?;
     }
     Ok(())
 }

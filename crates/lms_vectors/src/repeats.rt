@@ -4,16 +4,13 @@ ghost use Rattle.lms_vectors.specs.Repeats.{repeated};
 ghost use Rattle.sha256.specs.Digest.{sha256};
 
 use sha256::Hasher;
+use std::array;
 
 // The bytes 0, 1, .. 255.
 pub fn ramp() -> [u8; 256]
     ensures { (k : ℕ) → k < 256 → slice_index result k ≡ k }
 {
-    let mut pattern = [0; 256];
-    for i in 0..256 {
-        pattern[i] = i as u8;
-    }
-    pattern
+    array::from_fn(|i| i as u8)
 }
 
 // The digest of the first `n` bytes of a pattern that goes on and on.

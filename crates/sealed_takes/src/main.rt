@@ -5,14 +5,12 @@
 
 use anyhow::anyhow;
 use book::{Book, PalletBook};
-use lms::Keys;
+use lms::{KEYS, Keys};
 use seals::Checker;
 use settlement::ColdBox;
 use std::io::Read;
 use workbench::bench::opening_balances;
 use workbench::stream::Certificates;
-
-const KEYS: usize = 4312;
 
 fn take_each<B: Book, C: Checker>(
     rt: &HostRuntime,

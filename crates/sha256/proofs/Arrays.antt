@@ -1,12 +1,12 @@
 -- Arrays made element by element, and slices cut into arrays.
-use Rattle.std.proofs.Common.{◌≡◌, ℕ, zero, suc, ◌+◌, ◌*◌, ◌<◌, List, get_or, map, length, sym, drop, refl, ◌∙◌, ap, subst, below_more, arith}
+use Rattle.std.proofs.Common.{◌≡◌, ℕ, zero, suc, ◌+◌, ◌*◌, ◌<◌, List, get_or, map, length, sym, take, drop, refl, ◌∙◌, ap, subst, below_more, arith}
 use Rattle.std.specs.Array.{IsFromFnResult, IsFromFnResultFrom, IsMapOf}
 use Rattle.std.specs.Fn.{Called}
 use Rattle.std.specs.List.{range_with_len}
 use Rattle.sha256.specs.Compression.{word_at}
 use Rattle.std.specs.Int.{w32, from_be_bytes}
 use Rattle.std.specs.Simd.{first_chunks}
-use Rattle.std.proofs.lemmas.List.{get_or-take, get_or-drop, get_or-map, length-map, same_lists}
+use Rattle.std.proofs.lemmas.List.{get_or-take, get_or-drop, drop-drop, get_or-map, length-map, same_lists}
 use Rattle.std.proofs.lemmas.List.FromFn.{fill_by_all}
 use denote.Param.Members.{Mut}
 
@@ -30,17 +30,20 @@ mapped_by g f h xs ys n long e calls =
     let at = e.at k 0 d (omega (arith, e.long)) in
     calls (get_or xs k 0) (get_or ys k d) at.0 at.1 at.2 ∙ sym (get_or-map h xs k 0 d low))
 
-pub byte_of_chunk : (n k : ℕ) (xs : List ℕ) (i j : ℕ) (d : List ℕ) → i < k → j < n → get_or (get_or (first_chunks n k xs) i d) j 0 ≡ get_or xs (i * n + j) 0
-byte_of_chunk n zero xs i j d low lt = absurd (omega arith)
-byte_of_chunk n (suc k) xs zero j d low lt =
-    let none : 0 * n + j ≡ j = omega arith in
-    rw none (get_or-take n xs j 0 lt)
-byte_of_chunk n (suc k) xs (suc i) j d low lt =
-    let there : n + (i * n + j) ≡ suc i * n + j = omega arith in
-    byte_of_chunk n k (drop n xs) i j d (omega arith) lt ∙ get_or-drop n xs (i * n + j) 0 ∙ ap (λ m. get_or xs m 0) there
+pub chunk_at : (n k : ℕ) (xs : List ℕ) (i : ℕ) (d : List ℕ) → i < k → get_or (first_chunks n k xs) i d ≡ take n (drop (n * i) xs)
+chunk_at n zero xs i d low = absurd (omega arith)
+chunk_at n (suc k) xs zero d low =
+    let none : n * 0 ≡ 0 = omega arith in
+    rw none refl
+chunk_at n (suc k) xs (suc i) d low =
+    let from : n + n * i ≡ n * suc i = omega arith in
+    chunk_at n k (drop n xs) i d (omega arith) ∙ ap (take n) (drop-drop (n * i) n xs ∙ ap (λ m. drop m xs) from)
+
+byte_of_chunk : (k : ℕ) (xs : List ℕ) (i j : ℕ) (d : List ℕ) → i < k → j < 4 → get_or (get_or (first_chunks 4 k xs) i d) j 0 ≡ get_or xs (4 * i + j) 0
+byte_of_chunk k xs i j d low lt = ap (λ l. get_or l j 0) (chunk_at 4 k xs i d low) ∙ get_or-take 4 (drop (4 * i) xs) j 0 lt ∙ get_or-drop (4 * i) xs j 0
 
 pub word_of_chunk : (k : ℕ) (xs : List ℕ) (i : ℕ) (d : List ℕ) → i < k → from_be_bytes w32 (get_or (first_chunks 4 k xs) i d) ≡ word_at xs (4 * i)
 word_of_chunk k xs i d low =
-    let at : i * 4 ≡ 4 * i = omega arith in
-    let none : i * 4 + 0 ≡ 4 * i = omega arith in
-    rw (byte_of_chunk 4 k xs i 0 d low (omega arith), byte_of_chunk 4 k xs i 1 d low (omega arith), byte_of_chunk 4 k xs i 2 d low (omega arith), byte_of_chunk 4 k xs i 3 d low (omega arith), none, at) (omega arith)
+    let b₀ = byte_of_chunk k xs i 0 d low (omega arith) in
+    let none : 4 * i + 0 ≡ 4 * i = omega arith in
+    rw (b₀, byte_of_chunk k xs i 1 d low (omega arith), byte_of_chunk k xs i 2 d low (omega arith), byte_of_chunk k xs i 3 d low (omega arith), none) refl

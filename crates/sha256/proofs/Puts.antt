@@ -16,11 +16,6 @@ put_to_end a k xs ys zs h e =
     let none : drop k (drop a xs) ≡ [] = drop-drop k a xs ∙ drop_all (a + k) xs h in
     ap (λ post. take a xs ++ (ys ++ post)) none ∙ ap (λ l. take a xs ++ l) (append-nil ys ∙ e)
 
--- a byte, and then a part up to the end
-pub mark_to_end : (f k b : ℕ) (xs ys zs : List ℕ) → f < length xs → length xs ≤ f + 1 + k → ys ≡ zs → put_mid (f + 1) k (set xs f b) ys ≡ take f xs ++ b ∷ zs
-mark_to_end f k b xs ys zs lt h e =
-    put_to_end (f + 1) k (set xs f b) ys zs (simp length-set (omega arith)) e ∙ ap (λ l. l ++ zs) (take_more_set xs f b lt) ∙ append_assoc (take f xs) (b ∷ []) zs
-
 -- the bytes after the last whole block, written to the front
 pub left_in_front : (more ys post : List ℕ) → ys ≡ take (length more - length more / 64 * 64) (drop (length more / 64 * 64) more) →
     take (length more % 64) (ys ++ post) ≡ drop (length more / 64 * 64) more

@@ -52,15 +52,6 @@ all_by_eights ws s rows h cut =
     ap (λ r. fold (λ s p. turned s (zip p.0 p.1)) s (zip (first_chunks 8 8 constants) r)) same
     ∙ turned_by_eights 8 s constants ws length_constants h ∙ sym (turns_whole ws s h)
 
-pub next_taken : (ws : List ℕ) (t : ℕ) → 16 ≤ t → t ≤ length ws →
-    next_word (take t ws) ≡ add (add (add (σ₁ (get_or ws (t - 2) 0)) (get_or ws (t - 7) 0)) (σ₀ (get_or ws (t - 15) 0))) (get_or ws (t - 16) 0)
-next_taken ws t low high =
-    let a : t - 2 < t = omega arith in
-    let b : t - 7 < t = omega arith in
-    let d : t - 15 < t = omega arith in
-    let e : t - 16 < t = omega arith in
-    rw (length-take-le t ws high, get_or-take t ws (t - 2) 0 a, get_or-take t ws (t - 7) 0 b, get_or-take t ws (t - 15) 0 d, get_or-take t ws (t - 16) 0 e)
-
 pub extended_none : (ws : List ℕ) → ws ≡ extended 0 ws
 unfolding extended
 extended_none ws = refl

@@ -1,13 +1,8 @@
-use Rattle.std.proofs.Common.{arith}
-use Rattle.lms.proofs.Steps.{checksum_more, checksum_none}
+use Rattle.std.proofs.Common.{rules, arith}
+use Rattle.std.proofs.lemmas.Iterator.{YieldsList-from_slice}
+use Rattle.std.proofs.lemmas.Iterator.Adapters.{fits_from_length, at_most_from_yields_List}
 use Rattle.lms.proofs.chains.checksum_of.Goals as goal
 
-pub loop-digit-preserved : goal.loop-digit-preserved
-loop-digit-preserved c =
-    let more = checksum_more c.args.hash.now c.loop-digit.digit-index (omega arith) in
-    (omega arith, omega arith)
-
-pub returns : goal.returns
-returns c =
-    let none = checksum_none c.args.hash.now c.loop-digit.digit-index (omega arith) in
-    omega arith
+pub sum-requires-clause-fits : goal.sum-requires-clause-fits
+sum-requires-clause-fits c =
+    fits_from_length _ _ 32 65536 (at_most_from_yields_List (YieldsList-from_slice c.args.hash.now (cc)) (omega arith)) c.map.ensures.closure (omega arith) (λ x r q k. search rules)

@@ -5,5 +5,5 @@ use Rattle.lms.proofs.chains.digits_of.Goals as goal
 
 pub returns : goal.returns
 returns c =
-    laid_two c.put.new.bytes c.put-2.new.bytes c.args.hash.now c.to_be_bytes.result 32 (omega arith) c.put.ensures c.put-2.ensures (omega arith)
+    laid_two c.put.new.out c.put-2.new.out c.args.hash.now c.to_be_bytes.result 32 (omega arith) (c.put.ensures.front (omega arith)) (c.put-2.ensures.front (omega arith)) (omega arith)
     ∙ ap (λ l. c.args.hash.now ++ l) (c.to_be_bytes.ensures ∙ ap u16 c.checksum_of.ensures)

@@ -6,4 +6,5 @@ use Rattle.lms.proofs.chains.one_step.Goals as goal
 pub returns : goal.returns
 returns c =
     c.digest.ensures.value ∙ ap sha256
-    (laid_three c.put.new.bytes c.put-2.new.bytes c.args.front.now (c.args.j ∷ []) 22 (omega arith) c.put.ensures c.put-2.ensures c.put-3.new.bytes c.args.value.now 23 refl c.put-3.ensures (omega arith))
+    (laid_three c.put.new.out c.put-2.new.out c.args.front.now (c.args.j ∷ []) 22 (omega arith) (c.put.ensures.front (omega arith)) (c.put-2.ensures.front (omega arith))
+    c.put-3.new.out c.args.value.now 23 refl (c.put-3.ensures.front (omega arith)) (omega arith))

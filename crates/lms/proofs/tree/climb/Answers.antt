@@ -1,16 +1,18 @@
-use Rattle.std.proofs.Common.{◌≡◌, length, sym, ◌∙◌, arith}
-use Rattle.lms.proofs.Levels.{climbed_more, climbed_none}
+use Rattle.std.proofs.Common.{◌/◌, ◌<◌, ◌≤◌, [], length, get_or, sym, ap, ◌∙◌, arith}
+use Rattle.lms.proofs.Levels.{climbed_more, climbed_all}
+use Rattle.sha256.proofs.Arrays.{chunk_at}
 use Rattle.lms.proofs.tree.climb.Goals as goal
 
 pub loop-sibling-preserved : goal.loop-sibling-preserved
 loop-sibling-preserved c =
-    let s = c.in-Some.ensures.steps in
-    let whole : length c.in-Some.sibling.now ≡ 32 = cc in
-    let e = climbed_more c.args.id.now _ c.in-Some.sibling.now _ c.loop-sibling.value c.loop-sibling.number s.1.0 whole in
-    (cc, omega arith, cc)
+    let i = c.loop-sibling.sibling-index in
+    let path = c.args.path.now in
+    let low : i < 10 = omega (arith, c.as_chunks.ensures.front_len) in
+    let many : i < length path / 32 = omega arith in
+    let sibling = ap (λ l. get_or l i []) c.as_chunks.ensures.front ∙ chunk_at 32 _ path i [] many in
+    (omega arith, climbed_more _ path _ c.loop-sibling.value _ 10 i c.loop-sibling.number low sibling c.parent_of-value.ensures ∙ c.loop-sibling.invariant.1)
 
 pub returns : goal.returns
 returns c =
-    let s = c.in-None.ensures.steps in
-    let i = c.loop-sibling.invariant in
-    sym (sym i.2 ∙ climbed_none _ _ _ _ (omega arith))
+    let past : 10 ≤ c.loop-sibling.sibling-index = omega (arith, c.as_chunks.ensures.front_len) in
+    sym (climbed_all _ c.args.path.now c.loop-sibling.value _ _ _ past) ∙ c.loop-sibling.invariant.1

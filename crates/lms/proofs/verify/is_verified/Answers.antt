@@ -1,17 +1,17 @@
-use Rattle.std.proofs.Common.{◌∙◌}
-use Rattle.lms.specs.Verify.{root}
-use Rattle.lms.proofs.Judged.{judged, no_leaf, not_formed}
+use Rattle.std.proofs.Common.{ap, ◌∙◌}
+use Rattle.lms.specs.Verify.{candidate}
+use Rattle.lms.proofs.Judged.{judged, no_key, no_seal}
 use Rattle.lms.proofs.verify.is_verified.Goals as goal
-use Rattle.std.proofs.lemmas.Slice.Eq.{slice_eq-Decides, bytes_eq-Decides}
-use Rattle.std.proofs.lemmas.Bool.Decides.{same_from_decides, Decides-eqb}
 
-pub returns-then-not-is_formed : goal.returns-then-not-is_formed
-returns-then-not-is_formed c = not_formed _ _ _ c.if-not-is_formed.ensures
+pub returns-in_default : goal.returns-in_default
+returns-in_default c = no_key _ _ _ c.in_default.ensures
 
-pub returns-then-not-is_leaf : goal.returns-then-not-is_leaf
-returns-then-not-is_leaf c = no_leaf _ _ _ _ c.word.ensures c.if-not-is_leaf.ensures
+pub returns-in_default-parse : goal.returns-in_default-parse
+returns-in_default-parse c = no_seal _ _ _ c.in_default-parse.ensures
 
 pub returns : goal.returns
 returns c =
-    judged _ _ _ _ _ _ c.if-not-is_formed.ensures c.word.ensures c.if-not-is_leaf.ensures (c.as_slice.ensures ∙ c.candidate_root-root.ensures)
-    (same_from_decides _ _ (slice_eq-Decides Decides-eqb c.as_slice.result.now (root c.args.key.now) _ c.eq.ensures) (bytes_eq-Decides _ _))
+    let key = c.in-Some.ensures in
+    let seal = c.in-Some-parse.ensures in
+    judged c.args.key.now c.args.text.now c.args.seal.now c.candidate_root.result c.in-Some.key.root.now _ key.0 seal.0
+    (c.candidate_root.ensures c.args.seal.now seal.1.1 ∙ ap (λ I. candidate I c.args.text.now c.args.seal.now) key.1.0) key.1.1 c.eq.ensures

@@ -1,9 +1,8 @@
-use Rattle.std.proofs.Common.{arith}
-use Rattle.lms.proofs.Judged.{no_party, no_key}
+use Rattle.lms.proofs.Judged.{no_party, by_party}
 use Rattle.lms.proofs.keys.KeysChecker.check.Goals as goal
 
-pub returns-then-party-gt76 : goal.returns-then-party-gt76
-returns-then-party-gt76 c = no_party _ _ _ c.args.party (omega arith)
+pub returns-in-Some : goal.returns-in-Some
+returns-in-Some c = by_party _ _ _ c.in-Some.key.now c.args.party _ c.in-Some.ensures.0 c.in-Some.ensures.1 c.is_verified.ensures
 
-pub returns-then-self-start : goal.returns-then-self-start
-returns-then-self-start c = no_key c.args.self.now.bytes.now _ _ c.args.party (omega arith)
+pub returns-in-None : goal.returns-in-None
+returns-in-None c = no_party _ _ _ c.args.party c.in-None.ensures
