@@ -15,7 +15,11 @@ pub const LAST_ACCOUNT: u8 = 63;
 // The greatest sum of balances, and the greatest amount of one line.
 const MOST: u64 = 1 << 40;
 
-// What a line of kind 1 says.
+// The kind of a transfer's line. It stays a byte and no variant of an enum: each book has its own kinds, and a new book
+// may bring more.
+const TRANSFER: u8 = 1;
+
+// What a transfer's line says.
 #[derive(Clone, Copy)]
 struct Transfer {
     receiver: u8,
@@ -38,34 +42,29 @@ fn sum_of(balances: &[u64; 64]) -> u128
     ensures { result ≡ sum balances.now }
 {
     let mut total: u128 = 0;
-    for balance in balances.iter() {
+    for balance in balances {
         total += u128::from(*balance);
     }
     total
 }
 
-// Takes a line apart; none where its form is not that of kind 1.
+// Takes a line apart; none where its form is not that of a transfer. An Option is enough, as no caller learns why.
 fn transfer_in(line: &[u8; 16]) -> Option<Transfer>
     ensures says { result ≡ transfer_in line.now }
     ensures known { IfSome result (λ t. t.receiver ≤ 63) }
 {
-    let [kind, receiver, rest @ ..] = line.as_slice() else {
+    let [TRANSFER, receiver, 0, 0, 0, 0, 0, 0, a, b, c, d, e, f, g, h] = *line else {
         return None;
     };
-    let [0, 0, 0, 0, 0, 0, a, b, c, d, e, f, g, h] = rest else {
-        return None;
-    };
-    let amount = u64::from_be_bytes([*a, *b, *c, *d, *e, *f, *g, *h]);
-    if *kind != 1 || *receiver > LAST_ACCOUNT || amount == 0 || amount > MOST {
+    let amount = u64::from_be_bytes([a, b, c, d, e, f, g, h]);
+    if receiver > LAST_ACCOUNT || amount == 0 || amount > MOST {
         return None;
     }
-    Some(Transfer {
-        receiver: *receiver,
-        amount,
-    })
+    Some(Transfer { receiver, amount })
 }
 
 // Takes the amount from the issuer, whose balance covers it, and gives it to the receiver.
+#[tactic(auto, using(crate::proofs::Transfers::balance_sum, crate::proofs::Transfers::debit_shrinks))]
 fn carry_out(balances: &mut [u64; 64], issuer: u8, order: Transfer)
     requires accounts { (issuer ≤ 63) × (order.receiver ≤ 63) }
     requires covers { order.amount ≤ balance balances.old issuer }
@@ -128,7 +127,7 @@ impl Book for PalletBook {
     ghost independence = { λ b before m n reached apart. either_order (after pallet_next b.opening before) m n apart };
 
     fn lists(kind: u8) -> bool {
-        kind == 1
+        kind == TRANSFER
     }
 
     fn apply(&mut self, account: u8, line: &[u8; 16]) -> bool {
@@ -159,9 +158,6 @@ impl Book for PalletBook {
     }
 
     fn ask(&self, question: u8) -> Option<u64> {
-        if question > LAST_ACCOUNT {
-            return None;
-        }
-        Some(self.current[question as usize])
+        self.current.get(question as usize).copied()
     }
 }

@@ -16,6 +16,7 @@ pub struct Allowance<B> {
     current: [u16; 64],
 }
 
+#[tactic(auto, unfolding(crate::specs::Allowance::no_lines))]
 fn no_lines() -> [u16; 64]
     ensures { result ≡ no_lines }
 {

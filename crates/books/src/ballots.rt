@@ -11,7 +11,10 @@ const LAST_TOPIC: u8 = 15;
 
 const LAST_CHOICE: u8 = 3;
 
-// What a line of kind 2 says.
+// The kind of a vote's line: a byte, as the kinds of all books.
+const VOTE: u8 = 2;
+
+// What a vote's line says.
 #[derive(Clone, Copy)]
 struct Vote {
     topic: u8,
@@ -33,18 +36,19 @@ pub struct BallotBook {
     current: [[Option<u8>; 16]; 64],
 }
 
+#[tactic(auto, unfolding(crate::specs::Ballots::no_votes))]
 fn no_votes() -> [[Option<u8>; 16]; 64]
     ensures { result ≡ no_votes }
 {
     [[None; 16]; 64]
 }
 
-// Takes a line apart; none where its form is not that of kind 2.
+// Takes a line apart; none where its form is not that of a vote. An Option is enough, as no caller learns why.
 fn vote_in(line: &[u8; 16]) -> Option<Vote>
     ensures says { result ≡ vote_in line.now }
     ensures known { IfSome result (λ v. v.topic ≤ 15) }
 {
-    let [2, topic, choice, 0, 0, 0, 0, 0, 0, 0, 0, 0, 0, 0, 0, 0] = *line else {
+    let [VOTE, topic, choice, 0, 0, 0, 0, 0, 0, 0, 0, 0, 0, 0, 0, 0] = *line else {
         return None;
     };
     if topic > LAST_TOPIC || choice > LAST_CHOICE {
@@ -55,26 +59,16 @@ fn vote_in(line: &[u8; 16]) -> Option<Vote>
 
 // Whether a paper has this choice on the topic.
 fn has(paper: &[Option<u8>; 16], topic: u8, choice: u8) -> bool
-    requires { topic ≤ 15 }
     ensures { result ≡ chose topic choice paper.now }
 {
-    match paper[topic as usize] {
-        Some(chosen) => chosen == choice,
-        None => false,
-    }
+    paper.get(topic as usize).copied().flatten() == Some(choice)
 }
 
 fn count(papers: &[[Option<u8>; 16]; 64], topic: u8, choice: u8) -> u8
-    requires { topic ≤ 15 }
     ensures { result ≡ votes papers.now topic choice }
 {
-    let mut total = 0;
-    for paper in papers.iter() {
-        if has(paper, topic, choice) {
-            total += 1;
-        }
-    }
-    total
+    let votes = papers.iter().filter(|paper| has(paper, topic, choice));
+    votes.count() as u8
 }
 
 impl BallotBook {
@@ -117,7 +111,7 @@ impl Book for BallotBook {
     ghost independence = { λ b before m n reached apart. either_order (after ballot_next no_votes before) m n apart };
 
     fn lists(kind: u8) -> bool {
-        kind == 2
+        kind == VOTE
     }
 
     fn apply(&mut self, account: u8, line: &[u8; 16]) -> bool {

@@ -1,4 +1,5 @@
-// What a ready box does as a cold one does: it takes certificates and reports.
+// What a ready box does as a cold one does: it takes certificates and reports. Each call is passed on by a method, since
+// a caller that got at the cold box itself could exchange it under its store.
 ghost use Rattle.std.specs.Prelude.{◌≡◌, is_some, OnOk};
 ghost use Rattle.refusals.specs.Reading.{judged};
 ghost use Rattle.settling.specs.Books.{Level, NoneSettles};
@@ -39,7 +40,7 @@ impl<B: Book, C: Checker, S: MarkStore> ReadyBox<B, C, S> {
     }
 
     // Writes the account's waiting docket of a number into the buffer. Where there is none, and above account 63,
-    // the answer is no and the buffer is left alone.
+    // the answer is no and the buffer is left alone. A yes or no beside the caller's buffer is a rule of the project.
     pub fn waiting(&self, account: u8, number: u64, out: &mut [u8; 80]) -> bool
         ensures answer { result ≡ is_some (waiting_docket (state_of B.Book self.now.cold) account number) }
         ensures buffer { out.new ≡ reported (waiting_docket (state_of B.Book self.now.cold) account number) out.old }

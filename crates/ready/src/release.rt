@@ -21,8 +21,9 @@ impl<B: Book, C: Checker, S: MarkStore> ReadyBox<B, C, S> {
         ensures buffer { out.new ≡ buffer_after (released_text_of B.Book S.MarkStore self.old (slip_of slip)) out.old }
         ensures unchanged { self.new ≡ self.old }
     {
-        let (maker, account, number) = slip.spend();
-        *out = self.text(maker, account, number)?;
+        let text = self.text(&slip);
+        self.withhold(slip);
+        *out = text?;
         Ok(())
     }
 
@@ -30,24 +31,29 @@ impl<B: Book, C: Checker, S: MarkStore> ReadyBox<B, C, S> {
     pub fn withhold(&mut self, slip: Slip)
         ensures unchanged { self.new ≡ self.old }
     {
-        slip.spend();
+        let Slip {
+            maker: _,
+            account: _,
+            number: _,
+        } = slip;
     }
 
-    // The text that a slip of this box, account and number has released.
-    fn text(&self, maker: u8, account: u8, number: u64) -> Result<[u8; 82], BoxFault>
-        ensures { judged box_reading result ≡ released_text_of B.Book S.MarkStore self.now (record { maker = maker; account = account; number = number }) }
+    // The text that a slip releases.
+    #[tactic(auto, unfolding(pool::specs::Ready::released_text))]
+    fn text(&self, slip: &Slip) -> Result<[u8; 82], BoxFault>
+        ensures { judged box_reading result ≡ released_text_of B.Book S.MarkStore self.now (slip_of slip.now) }
     {
         let own = self.cold.number();
         if self.store.owner() != own {
             return Err(BoxFault::OtherOwner);
         }
-        if maker != own {
+        if slip.maker != own {
             return Err(BoxFault::NotMarked);
         }
-        let Some(mark) = mark_of(&self.store, account) else {
+        let Some(mark) = mark_of(&self.store, slip.account) else {
             return Err(BoxFault::NotMarked);
         };
-        if mark.number != number {
+        if mark.number != slip.number {
             return Err(BoxFault::NotMarked);
         }
         Ok(countersign_text(own, &mark.to_bytes()))

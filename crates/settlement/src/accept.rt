@@ -1,5 +1,5 @@
 // Which certificates a box accepts, and which dockets it then admits.
-ghost use Rattle.std.specs.Prelude.{◌≡◌, ◌<◌, ◌≤◌, Some, Err};
+ghost use Rattle.std.specs.Prelude.{◌≡◌, ◌<◌, Some, Err};
 ghost use Rattle.refusals.specs.Reading.{judged};
 ghost use Rattle.std.specs.Str.{bytes_eq};
 ghost use Rattle.docket.specs.Layout.{encoded};
@@ -9,47 +9,38 @@ ghost use Rattle.seals.specs.Texts.{box_party, countersign_text};
 ghost use Rattle.settlement.specs.Accept.{seal_of, first_bad, unless_bad, judged_contents, accepted, admitted, occupied};
 ghost use Rattle.settlement.specs.Faults.{box_reading};
 
+use crate::cold::ColdBox;
 use crate::faults::BoxFault;
+use book::Book;
 use certificate::{Certificate, Entry};
 use docket::Docket;
 use seals::{Checker, countersign_text};
 use settling::Account;
 
-// The docket of a certificate that is well formed, of the pool, with enough entries, and every seal good.
-pub(crate) fn accept<C: Checker>(
-    checker: &C,
-    pool: u32,
-    boxes: u8,
-    needed: u8,
-    bytes: &[u8],
-) -> Result<Docket, BoxFault>
-    requires { boxes ≤ 13 }
-    ensures { judged box_reading result ≡ accepted (C.good checker.now) pool boxes needed bytes.now }
-{
-    let certificate = Certificate::read(boxes, bytes)?;
-    judge(checker, pool, needed, bytes, &certificate)
-}
+impl<B: Book, C: Checker> ColdBox<B, C> {
+    // The docket of a certificate that is well formed, of the pool, with enough entries, and every seal good.
+    pub(crate) fn accept(&self, bytes: &[u8]) -> Result<Docket, BoxFault>
+        ensures { judged box_reading result ≡ accepted (C.Checker.good self.now.checker) self.now.pool self.now.boxes self.now.needed bytes.now }
+    {
+        let certificate = Certificate::read(self.boxes, bytes)?;
+        self.judge(bytes, &certificate)
+    }
 
-// The docket of a certificate that was read from the bytes.
-fn judge<C: Checker>(
-    checker: &C,
-    pool: u32,
-    needed: u8,
-    bytes: &[u8],
-    certificate: &Certificate,
-) -> Result<Docket, BoxFault>
-    requires { Rising 13 0 (contents certificate.now).entries }
-    ensures { judged box_reading result ≡ judged_contents (C.good checker.now) pool needed bytes.now (contents certificate.now) }
-{
-    let docket = certificate.docket();
-    if docket.pool != pool {
-        return Err(BoxFault::AnotherPool);
+    // The docket of a certificate that was read from the bytes.
+    fn judge(&self, bytes: &[u8], certificate: &Certificate) -> Result<Docket, BoxFault>
+        requires { Rising 13 0 (contents certificate.now).entries }
+        ensures { judged box_reading result ≡ judged_contents (C.Checker.good self.now.checker) self.now.pool self.now.needed bytes.now (contents certificate.now) }
+    {
+        let docket = certificate.docket();
+        if docket.pool != self.pool {
+            return Err(BoxFault::AnotherPool);
+        }
+        let entries = certificate.entries();
+        if entries.len() < self.needed as usize {
+            return Err(BoxFault::TooFewEntries);
+        }
+        check_seals(&self.checker, bytes, docket, entries)
     }
-    let entries = certificate.entries();
-    if entries.len() < needed as usize {
-        return Err(BoxFault::TooFewEntries);
-    }
-    check_seals(checker, bytes, docket, entries)
 }
 
 // The docket, if every entry's box has sealed it; else the offset of the first entry whose seal is not good.

@@ -6,7 +6,7 @@ ghost use Rattle.settlement.specs.Box.{with_ledger};
 ghost use Rattle.settlement.specs.Faults.{box_reading};
 ghost use Rattle.settlement.specs.Seen.{state_of, ComesTo, taken_docket_of, settled_with_of, take_answer_of, take_box_of};
 
-use crate::accept::{accept, admit};
+use crate::accept::admit;
 use crate::cold::ColdBox;
 use crate::faults::BoxFault;
 use book::Book;
@@ -19,7 +19,7 @@ impl<B: Book, C: Checker> ColdBox<B, C> {
     fn docket_to_take(&self, bytes: &[u8]) -> Result<Docket, BoxFault>
         ensures { judged box_reading result ≡ taken_docket_of B.Book C.Checker self.now bytes.now }
     {
-        let docket = accept(&self.checker, self.pool, self.boxes, self.needed, bytes)?;
+        let docket = self.accept(bytes)?;
         let account = self.accounts.get(docket.account);
         admit(&account, docket)
     }

@@ -1,10 +1,10 @@
 -- What storing and advancing keep of the accounts' bounds. Assumes nothing.
 use Rattle.std.proofs.Common.{◌≡◌, ℕ, zero, suc, ◌%◌, ◌<◌, ◌≤◌, Bool, true, false, cond, ◌&&◌, eqb, leb, List, [], ◌∷◌, length, get_or, set, is_some, Some, None, Option, sym, refl, ap, ◌∙◌, subst, arith}
-use Rattle.std.proofs.lemmas.List.{length-set, get_or_default, set_past}
+use Rattle.std.proofs.lemmas.List.{length-set, get_or_default}
 use Rattle.std.proofs.lemmas.Bool.{and_parts, and_from, leb-true, le-leb, eqb-true, eq-eqb, false≢true}
 use Rattle.docket.specs.declared.Docket.{Docket}
 use Rattle.settling.specs.declared.account.Account.{Account}
-use Rattle.settling.specs.Window.{fresh, cell, of_number, waiting, placed, advanced, account_of, numbered, all_numbered, bounded_account, all_bounded, Bounded, stored}
+use Rattle.settling.specs.Window.{fresh, cell, of_number, waiting, placed, advanced, account_of, numbered, all_numbered, bounded_account, all_bounded, Bounded}
 
 numbered_at : (cs : List (Option Docket)) (i : ℕ) → all_numbered cs ≡ true → numbered (get_or cs i None) ≡ true
 numbered_at [] i h = refl
@@ -95,12 +95,3 @@ pub advance_keeps :
     (rows : List Account) (a : ℕ) (old x : Account) → Bounded rows → is_some (waiting (account_of rows a) (account_of rows a).next) ≡ true
     → old ≡ account_of rows a → x ≡ advanced old → Bounded (set rows a x)
 advance_keeps rows a old x b w o e = subst (λ (y : Account). Bounded (set rows a y)) (sym (e ∙ ap advanced o)) (advanced_bounded rows a b w)
-
-pub stored_in : (rows : List Account) (d : Docket) (old x : Account) → d.number ≤ 1099511627776 → old ≡ account_of rows d.account → x ≡ placed old d → set rows d.account x ≡ stored rows d
-stored_in rows d old x n o e = let t = le-leb d.number 1099511627776 n in cc
-
-pub stored_out : (rows : List Account) (d : Docket) → d.number ≤ 1099511627776 → length rows ≡ 64 → 64 ≤ d.account → rows ≡ stored rows d
-stored_out rows d n l h =
-    let t = le-leb d.number 1099511627776 n in
-    let p = set_past rows d.account (placed (account_of rows d.account) d) (omega arith) in
-    cc

@@ -1,25 +1,13 @@
 -- The loop that settles: each turn settles one docket of those that wait. Assumes nothing.
-use Rattle.std.proofs.Common.{◌≡◌, ℕ, zero, suc, ◌+◌, ◌*◌, ◌%◌, ◌<◌, ◌≤◌, Bool, true, false, cond, eqb, List, [], ◌∷◌, length, get_or, set, is_some, Some, None, Option, unwrap_or, sym, refl, ap, ◌∙◌, subst, arith}
+use Rattle.std.proofs.Common.{◌≡◌, ℕ, zero, suc, ◌+◌, ◌*◌, ◌%◌, ◌<◌, ◌≤◌, Bool, true, List, [], ◌∷◌, length, is_some, Some, None, Option, unwrap_or, sym, refl, ap, ◌∙◌, subst, arith}
 use Rattle.std.specs.Option.{option_map}
 use Rattle.std.proofs.lemmas.Bool.{and_parts}
 use Rattle.docket.specs.declared.Docket.{Docket}
 use Rattle.settling.specs.declared.account.Account.{Account}
-use Rattle.settling.specs.Window.{cell, of_number, waiting, advanced, account_of, advanced_in, bounded_account, all_bounded, Bounded}
-use Rattle.settling.specs.Settle.{waiting_in, waiting_count, Ledger, covered_of, ready, or_else, with_index, lowest_ready, settle_one, settle_up_to, settle_all}
+use Rattle.settling.specs.Window.{waiting, advanced, account_of, advanced_in, bounded_account, all_bounded, Bounded}
+use Rattle.settling.specs.Settle.{waiting_in, waiting_count, Ledger, ready, lowest_ready, settle_one, settle_up_to, settle_all}
 use Rattle.settling.proofs.Bounds.{parts}
-
--- a cell that is emptied leaves one docket fewer
-emptied : (cs : List (Option Docket)) (i : ℕ) (d : Docket) → get_or cs i None ≡ Some d → waiting_in cs ≡ suc (waiting_in (set cs i None))
-emptied [] i d e = let z : ◌≡◌ {A = ℕ} 0 1 = cc in absurd (omega arith)
-emptied (None ∷ cs) zero d e = let z : ◌≡◌ {A = ℕ} 0 1 = cc in absurd (omega arith)
-emptied (None ∷ cs) (suc i) d e = emptied cs i d e
-emptied (Some x ∷ cs) zero d e = refl
-emptied (Some x ∷ cs) (suc i) d e = ap suc (emptied cs i d e)
-
-one_fewer : (rows : List Account) (a : ℕ) (x : Account) → a < length rows → waiting_in (account_of rows a).cells ≡ suc (waiting_in x.cells) → waiting_count rows ≡ suc (waiting_count (set rows a x))
-one_fewer [] a x h e = absurd (omega arith)
-one_fewer (r ∷ rs) zero x h e = omega arith
-one_fewer (r ∷ rs) (suc a) x h e = let f = one_fewer rs a x (omega arith) e in omega arith
+use Rattle.settling.proofs.OrderCounts.{fewer_in, fewer, waits_from, ready_from, found}
 
 in_cells : (cs : List (Option Docket)) → waiting_in cs ≤ length cs
 in_cells [] = omega arith
@@ -39,43 +27,6 @@ pub few_wait : (rows : List Account) → Bounded rows → waiting_count rows ≤
 few_wait rows b = let f = in_accounts rows b.1 in let l = b.0 in omega arith
 
 module _ {State : Type 0} (valid : State → ℕ → List ℕ → Bool) (next : State → ℕ → List ℕ → State) where
-  -- where a ready account was found
-  record Found (s : State) (rows : List Account) (i a : ℕ) (t : State) : Type 0 where
-    at : ℕ
-    places : a ≡ i + at
-    inside : at < length rows
-    covers : ready valid next s (account_of rows at) ≡ Some t
-
-  found_here : (s : State) (r : Account) (rs : List Account) (i a : ℕ) (t : State) (o : Option State) → o ≡ ready valid next s r → with_index i o ≡ Some (a, t) → Found s (r ∷ rs) i a t
-  found_here s r rs i a t None e f = let z : ◌≡◌ {A = ℕ} 0 1 = cc in absurd (omega arith)
-  found_here s r rs i a t (Some u) e f =
-      let p : i ≡ a = ap (λ (o : Option (ℕ × State)). unwrap_or (option_map (λ (x : ℕ × State). x.0) o) 0) f in
-      let q : u ≡ t = ap (λ (o : Option (ℕ × State)). unwrap_or (option_map (λ (x : ℕ × State). x.1) o) u) f in
-      record { at = 0; places = omega arith; inside = omega arith; covers = sym e ∙ ap Some q }
-
-  found_past : (s : State) (r : Account) (rs : List Account) (i a : ℕ) (t : State) → Found s rs (i + 1) a t → Found s (r ∷ rs) i a t
-  found_past s r rs i a t f = record { at = suc f.at; places = omega arith; inside = omega arith; covers = f.covers }
-
-  found_either :
-      (s : State) (r : Account) (rs : List Account) (i a : ℕ) (t : State) (o : Option State) → o ≡ ready valid next s r
-      → or_else (with_index i o) (lowest_ready valid next (i + 1) s rs) ≡ Some (a, t)
-      → (lowest_ready valid next (i + 1) s rs ≡ Some (a, t) → Found s rs (i + 1) a t) → Found s (r ∷ rs) i a t
-  found_either s r rs i a t None q f more = found_past s r rs i a t (more f)
-  found_either s r rs i a t (Some u) q f more = found_here s r rs i a t (Some u) q f
-
-  found : (s : State) (rows : List Account) (i a : ℕ) (t : State) → lowest_ready valid next i s rows ≡ Some (a, t) → Found s rows i a t
-  found s [] i a t e = let z : ◌≡◌ {A = ℕ} 0 1 = cc in absurd (omega arith)
-  found s (r ∷ rs) i a t e = found_either s r rs i a t (ready valid next s r) refl e (λ f. found s rs (i + 1) a t f)
-
-  -- an account that is ready has a docket in the cell of its next number
-  docket_of_lem : (s t : State) (n : ℕ) (o : Option Docket) → covered_of valid next s (of_number n o) ≡ Some t → (is_some (of_number n o) ≡ true) × ((d : Docket) × (o ≡ Some d))
-  docket_of_lem s t n None e = let z : ◌≡◌ {A = ℕ} 0 1 = cc in absurd (omega arith)
-  docket_of_lem s t n (Some d) e = (waits (eqb d.number n) e, (d, refl))
-    where
-      waits : (b : Bool) → covered_of valid next s (cond b (Some d) None) ≡ Some t → is_some (cond b (Some d) None) ≡ true
-      waits true f = refl
-      waits false f = let z : ◌≡◌ {A = ℕ} 0 1 = cc in absurd (omega arith)
-
   -- one docket settles, and one fewer waits
   pub record Settles (s : State) (rows : List Account) (a : ℕ) (t : State) : Type 0 where
     pub within : a < length rows
@@ -84,15 +35,15 @@ module _ {State : Type 0} (valid : State → ℕ → List ℕ → Bool) (next : 
 
   pub settles : (s : State) (rows : List Account) (a : ℕ) (t : State) → lowest_ready valid next 0 s rows ≡ Some (a, t) → Settles s rows a t
   settles s rows a t e =
-      let f = found s rows 0 a t e in
-      let w : f.at ≡ a = omega arith in
-      let c : ready valid next s (account_of rows a) ≡ Some t = subst (λ (k : ℕ). ready valid next s (account_of rows k) ≡ Some t) w f.covers in
+      let f = found valid next 0 s rows (a, t) e in
+      let w : f.0 ≡ a = omega arith in
+      let c : ready valid next s (account_of rows a) ≡ Some t = subst (λ (k : ℕ). ready valid next s (account_of rows k) ≡ Some t) w f.3 in
       let r = account_of rows a in
-      let d = docket_of_lem s t r.next (cell r r.next) c in
+      let d = ready_from valid next s t r c in
       record {
         within = omega arith;
-        due = d.0;
-        fewer = one_fewer rows a (advanced r) (omega arith) (emptied r.cells (r.next % 4) d.1.0 d.1.1);
+        due = ap is_some d.1;
+        fewer = fewer rows a (advanced r) (omega arith) (fewer_in r.cells (r.next % 4) d.0 (waits_from r r.next d.0 d.1).0);
       }
 
   -- the settling from `start` on, after `count` dockets

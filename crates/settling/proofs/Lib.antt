@@ -1,4 +1,3 @@
-mod Trying
 mod Bounds
 mod Closing
 pub mod OrderRuns

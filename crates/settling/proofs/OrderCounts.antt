@@ -8,14 +8,14 @@ use Rattle.settling.specs.Settle.{Ledger, waiting_in, waiting_count, covered, co
 use Rattle.settling.proofs.OrderRuns.{none≢some, some_same}
 use Rattle.settling.proofs.OrderLines.{cond_some}
 
-fewer_in : (cs : List (Option Docket)) (i : ℕ) (d : Docket) → get_or cs i None ≡ Some d → waiting_in cs ≡ suc (waiting_in (set cs i None))
+pub fewer_in : (cs : List (Option Docket)) (i : ℕ) (d : Docket) → get_or cs i None ≡ Some d → waiting_in cs ≡ suc (waiting_in (set cs i None))
 fewer_in [] i d e = absurd (none≢some d e)
 fewer_in (None ∷ cs) zero d e = absurd (none≢some d e)
 fewer_in (Some c ∷ cs) zero d e = refl
 fewer_in (None ∷ cs) (suc i) d e = fewer_in cs i d e
 fewer_in (Some c ∷ cs) (suc i) d e = ap suc (fewer_in cs i d e)
 
-fewer : (rows : List Account) (j : ℕ) (x : Account) → j < length rows → waiting_in (account_of rows j).cells ≡ suc (waiting_in x.cells) → waiting_count rows ≡ suc (waiting_count (set rows j x))
+pub fewer : (rows : List Account) (j : ℕ) (x : Account) → j < length rows → waiting_in (account_of rows j).cells ≡ suc (waiting_in x.cells) → waiting_count rows ≡ suc (waiting_count (set rows j x))
 fewer [] j x h e = absurd (omega arith)
 fewer (r ∷ rows) zero x h e = omega arith
 fewer (r ∷ rows) (suc j) x h e = let f = fewer rows j x (omega arith) e in omega arith
@@ -31,7 +31,7 @@ waits_from a n d e = from (cell a n) e
         (p.1, ap (λ (x : Docket). x.number) (sym (some_same c d p.1)) ∙ eqb-true c.number n p.0)
 
 module _ {State : Type 0} (valid : State → ℕ → List ℕ → Bool) (next : State → ℕ → List ℕ → State) where
-  ready_from : (s t : State) (a : Account) → ready valid next s a ≡ Some t → (d : Docket) × (waiting a a.next ≡ Some d) × (covered valid next s d ≡ Some t)
+  pub ready_from : (s t : State) (a : Account) → ready valid next s a ≡ Some t → (d : Docket) × (waiting a a.next ≡ Some d) × (covered valid next s d ≡ Some t)
   ready_from s t a e = from (waiting a a.next) e
     where
       from : (o : Option Docket) → covered_of valid next s o ≡ Some t → (d : Docket) × (o ≡ Some d) × (covered valid next s d ≡ Some t)
@@ -46,11 +46,12 @@ module _ {State : Type 0} (valid : State → ℕ → List ℕ → Bool) (next : 
   neither i None rest e = (refl, e)
   neither i (Some u) rest e = absurd (none≢some (i, u) (sym e))
 
-  lowest_some : (i : ℕ) (s : State) (rows : List Account) (x : ℕ × State) → lowest_ready valid next i s rows ≡ Some x → (j : ℕ) × (x.0 ≡ i + j) × (j < length rows) × (ready valid next s (account_of rows j) ≡ Some x.1)
-  lowest_some i s [] x e = absurd (none≢some x e)
-  lowest_some i s (r ∷ rows) x e =
+  -- where the lowest ready account is
+  pub found : (i : ℕ) (s : State) (rows : List Account) (x : ℕ × State) → lowest_ready valid next i s rows ≡ Some x → (j : ℕ) × (x.0 ≡ i + j) × (j < length rows) × (ready valid next s (account_of rows j) ≡ Some x.1)
+  found i s [] x e = absurd (none≢some x e)
+  found i s (r ∷ rows) x e =
       ⊎_elim (λ h. (0, omega arith, omega arith, h.0))
-      (λ h. let l = lowest_some (i + 1) s rows x h in (suc l.0, omega arith, omega arith, l.3))
+      (λ h. let l = found (i + 1) s rows x h in (suc l.0, omega arith, omega arith, l.3))
       (either i (ready valid next s r) (lowest_ready valid next (i + 1) s rows) x e)
 
   lowest_none : (i : ℕ) (s : State) (rows : List Account) (j : ℕ) → lowest_ready valid next i s rows ≡ None → ready valid next s (account_of rows j) ≡ None
@@ -74,7 +75,7 @@ module _ {State : Type 0} (valid : State → ℕ → List ℕ → Bool) (next : 
       from : (o : Option (ℕ × State)) → lowest_ready valid next 0 l.state l.accounts ≡ o → advanced_at l.accounts o ≡ Some m → One l m
       from None low h = absurd (none≢some m h)
       from (Some x) low h =
-          let f = lowest_some 0 l.state l.accounts x low in
+          let f = found 0 l.state l.accounts x low in
           let r = ready_from l.state x.1 (account_of l.accounts f.0) f.3 in
           let i : x.0 ≡ f.0 = omega arith in
           let same = some_same _ m h in

@@ -107,6 +107,7 @@ impl Accounts {
 
 // Makes a docket's lines in the book, one after another, until one is not valid: its index. There is none where the
 // docket is covered. What the book keeps stays.
+#[tactic(auto, unfolding(crate::specs::Settle::uncovered))]
 pub fn apply_lines<B: Book>(book: &mut B, docket: &Docket) -> Option<usize>
     ensures answer { result ≡ uncovered_in B.Book book.old docket.now }
     ensures covers { covered_in B.Book book.old docket.now ≡ then_some (not (is_some result)) (B.current book.new) }
