@@ -70,25 +70,6 @@ frames_none stream e =
     let f : frames_up_to (length stream) stream ≡ frames_up_to (suc (length stream)) stream = enough (length stream) (suc (length stream)) stream (omega arith) (omega arith) in
     f ∙ ap (then_frames (frames_up_to (length stream)) stream) (sym e)
 
-module _ {State : Type 0} (valid : State → ℕ → List ℕ → Bool) (next : State → ℕ → List ℕ → State) (good : ℕ → List ℕ → List ℕ → Bool) where
-  -- a turn: the answer goes behind those that were given before
-  pub answers_more :
-      (b b' : BoxState State) (cs rest : List (List ℕ)) (c : List ℕ) (before after : List Answer) (a : Answer) (all : List Answer)
-      → before ++ answers_to valid next good b cs ≡ all → cs ≡ c ∷ rest
-      → a ≡ told (take_answer valid next good b c) → b' ≡ take_box valid next good b c
-      → after ≡ before ++ (a ∷ []) → after ++ answers_to valid next good b' rest ≡ all
-  answers_more b b' cs rest c before after a all inv f t l p =
-      let others = answers_to valid next good b' rest in
-      let g : answers_to valid next good b cs ≡ a ∷ others = rw (f, t, l) in
-      let h : (before ++ (a ∷ [])) ++ others ≡ before ++ (a ∷ others) = append_assoc before (a ∷ []) others in
-      cc
-
-  pub answers_all :
-      (b : BoxState State) (cs : List (List ℕ)) (given all : List Answer) → given ++ answers_to valid next good b cs ≡ all → cs ≡ [] → given ≡ all
-  answers_all b cs given all inv f =
-      let g : answers_to valid next good b cs ≡ [] = ap (answers_to valid next good b) f in
-      sym (append-nil given) ∙ (ap (λ (r : List Answer). given ++ r) (sym g) ∙ inv)
-
 -- setup of box 0 in a pool of four
 pub never_refused : {State : Type 0} (o : State) (r : Reading) → Err r ≡ set_up 7 0 1 o → ⊥
 unfolding set_up
