@@ -13,7 +13,8 @@ use Rattle.marks.specs.Outcomes.{lands, next_outcome}
 use Rattle.settling.proofs.OrderRuns.{some_same}
 use Rattle.settling.specs.Window.{account_of}
 use Rattle.settlement.specs.Box.{BoxState}
-use Rattle.settlement.specs.Examine.{judged_docket, examined, uncovered}
+use Rattle.settling.specs.Settle.{uncovered}
+use Rattle.settlement.specs.Examine.{judged_docket, examined}
 use Rattle.pool.specs.Ready.{StoreState, written, Finding, refuses, marked, by_cover, by_mark, by_store, by_examined, finding, store_after}
 use Rattle.pool.proofs.Again.{read_again, ok_same}
 

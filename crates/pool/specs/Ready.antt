@@ -9,7 +9,8 @@ use Rattle.seals.specs.Texts.{countersign_text}
 use Rattle.marks.specs.Marks.{write_answer, mark_after, row_after}
 use Rattle.settlement.specs.Accept.{refused}
 use Rattle.settlement.specs.Box.{BoxState}
-use Rattle.settlement.specs.Examine.{examined, uncovered, level_box}
+use Rattle.settling.specs.Settle.{uncovered}
+use Rattle.settlement.specs.Examine.{examined, level_box}
 
 -- a store as a box sees it: its owner, each account's mark, and the outcomes of coming writes
 pub record StoreState : Type 0 where

@@ -1,9 +1,10 @@
 // What a ready box does as a cold one does: it takes certificates and reports.
-ghost use Rattle.std.specs.Prelude.{◌≡◌, is_some, None, OnOk};
+ghost use Rattle.std.specs.Prelude.{◌≡◌, is_some, OnOk};
 ghost use Rattle.refusals.specs.Reading.{judged};
-ghost use Rattle.settling.specs.Settle.{settle_one};
-ghost use Rattle.settlement.specs.Box.{box_of, next_number, waiting_docket, reported, take_answer, take_box};
+ghost use Rattle.settling.specs.Books.{Level, NoneSettles};
+ghost use Rattle.settlement.specs.Box.{next_number, waiting_docket, reported};
 ghost use Rattle.settlement.specs.Faults.{box_reading};
+ghost use Rattle.settlement.specs.Seen.{state_of, ComesTo, take_answer_of, take_box_of};
 
 use crate::state::ReadyBox;
 use book::Book;
@@ -14,26 +15,25 @@ use settlement::BoxFault;
 impl<B: Book, C: Checker, S: MarkStore> ReadyBox<B, C, S> {
     // Takes a certificate, as a cold box does. The store is left alone.
     pub fn take(&mut self, bytes: &[u8]) -> Result<u32, BoxFault>
-        ensures answer { judged box_reading result ≡ take_answer B.Book.valid B.Book.next (C.Checker.good self.old.cold.checker) (box_of B.Book.opening B.Book.kept B.Book.current self.old.cold) bytes.now }
-        ensures left { box_of B.Book.opening B.Book.kept B.Book.current self.new.cold ≡ take_box B.Book.valid B.Book.next (C.Checker.good self.old.cold.checker) (box_of B.Book.opening B.Book.kept B.Book.current self.old.cold) bytes.now }
-        ensures checker { self.new.cold.checker ≡ self.old.cold.checker }
+        ensures answer { judged box_reading result ≡ take_answer_of B.Book C.Checker self.old.cold bytes.now }
+        ensures left { ComesTo B.Book self.old.cold self.new.cold (take_box_of B.Book C.Checker self.old.cold bytes.now) }
         ensures store { self.new.store ≡ self.old.store }
-        ensures level { B.Book.kept self.old.cold.book ≡ B.Book.current self.old.cold.book → B.Book.kept self.new.cold.book ≡ B.Book.current self.new.cold.book }
-        ensures done { OnOk result (settle_one B.Book.valid B.Book.next (record { state = B.Book.current self.new.cold.book; accounts = self.new.cold.accounts.rows }) ≡ None) }
+        ensures level { Level B.Book self.old.cold.book → Level B.Book self.new.cold.book }
+        ensures done { OnOk result (NoneSettles B.Book self.new.cold.book self.new.cold.accounts.rows) }
     {
         self.cold.take(bytes)
     }
 
     // What the book answers.
     pub fn ask(&self, question: B::Question) -> B::Answer
-        ensures { result ≡ B.Book.answer (box_of B.Book.opening B.Book.kept B.Book.current self.now.cold).current question }
+        ensures { result ≡ B.Book.answer (state_of B.Book self.now.cold).current question }
     {
         self.cold.ask(question)
     }
 
     // An account's next number; none above account 63.
     pub fn next_number(&self, account: u8) -> Option<u64>
-        ensures { result ≡ next_number (box_of B.Book.opening B.Book.kept B.Book.current self.now.cold) account }
+        ensures { result ≡ next_number (state_of B.Book self.now.cold) account }
     {
         self.cold.next_number(account)
     }
@@ -41,8 +41,8 @@ impl<B: Book, C: Checker, S: MarkStore> ReadyBox<B, C, S> {
     // Writes the account's waiting docket of a number into the buffer. Where there is none, and above account 63,
     // the answer is no and the buffer is left alone.
     pub fn waiting(&self, account: u8, number: u64, out: &mut [u8; 80]) -> bool
-        ensures answer { result ≡ is_some (waiting_docket (box_of B.Book.opening B.Book.kept B.Book.current self.now.cold) account number) }
-        ensures buffer { out.new ≡ reported (waiting_docket (box_of B.Book.opening B.Book.kept B.Book.current self.now.cold) account number) out.old }
+        ensures answer { result ≡ is_some (waiting_docket (state_of B.Book self.now.cold) account number) }
+        ensures buffer { out.new ≡ reported (waiting_docket (state_of B.Book self.now.cold) account number) out.old }
     {
         self.cold.waiting(account, number, out)
     }

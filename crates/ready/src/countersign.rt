@@ -1,11 +1,11 @@
 // Countersigning dockets: the mark is written down before the slip is given out.
 ghost use Rattle.std.specs.Prelude.{◌≡◌, Some, Ok};
 ghost use Rattle.refusals.specs.Reading.{judged, and_then};
-ghost use Rattle.settlement.specs.Box.{box_of};
-ghost use Rattle.settlement.specs.Examine.{uncovered, level_box};
+ghost use Rattle.settling.specs.Books.{uncovered_in};
 ghost use Rattle.settlement.specs.Faults.{box_reading};
-ghost use Rattle.pool.specs.Ready.{Finding, slip_for, by_cover, by_mark, by_store, finding, slip_after, store_after, box_after};
-ghost use Rattle.ready.specs.Seen.{store_of, slip_seen, stood};
+ghost use Rattle.settlement.specs.Seen.{state_of};
+ghost use Rattle.pool.specs.Ready.{Finding, slip_for, by_cover, by_mark};
+ghost use Rattle.ready.specs.Seen.{ActsOn, by_store_of, finding_of, slip_seen, stood};
 
 use crate::mark::mark_of;
 use crate::slip::Slip;
@@ -21,10 +21,7 @@ impl<B: Book, C: Checker, S: MarkStore> ReadyBox<B, C, S> {
     // account's mark: it is written down as such first, if it is not yet and its lines are valid. On any refusal but a
     // failed write the store is as it was.
     pub fn countersign(&mut self, bytes: &[u8], seal: &[u8]) -> Result<Slip, BoxFault>
-        ensures answer { slip_seen result ≡ slip_after (box_of B.Book.opening B.Book.kept B.Book.current self.old.cold) (store_of S.MarkStore.owner_of S.MarkStore.mark S.MarkStore.row self.old.store) (finding B.Book.valid B.Book.next (C.Checker.good self.old.cold.checker) (box_of B.Book.opening B.Book.kept B.Book.current self.old.cold) (store_of S.MarkStore.owner_of S.MarkStore.mark S.MarkStore.row self.old.store) bytes.now seal.now) }
-        ensures store { store_of S.MarkStore.owner_of S.MarkStore.mark S.MarkStore.row self.new.store ≡ store_after (store_of S.MarkStore.owner_of S.MarkStore.mark S.MarkStore.row self.old.store) (finding B.Book.valid B.Book.next (C.Checker.good self.old.cold.checker) (box_of B.Book.opening B.Book.kept B.Book.current self.old.cold) (store_of S.MarkStore.owner_of S.MarkStore.mark S.MarkStore.row self.old.store) bytes.now seal.now) }
-        ensures left { box_of B.Book.opening B.Book.kept B.Book.current self.new.cold ≡ box_after (box_of B.Book.opening B.Book.kept B.Book.current self.old.cold) (finding B.Book.valid B.Book.next (C.Checker.good self.old.cold.checker) (box_of B.Book.opening B.Book.kept B.Book.current self.old.cold) (store_of S.MarkStore.owner_of S.MarkStore.mark S.MarkStore.row self.old.store) bytes.now seal.now) }
-        ensures checker { self.new.cold.checker ≡ self.old.cold.checker }
+        ensures { ActsOn B.Book S.MarkStore self.old self.new (slip_seen result) (finding_of B.Book C.Checker S.MarkStore self.old bytes.now seal.now) }
     {
         let docket = self.cold.examine(bytes, seal)?;
         self.have_marked(&docket)?;
@@ -37,10 +34,7 @@ impl<B: Book, C: Checker, S: MarkStore> ReadyBox<B, C, S> {
 
     // Sees to it that the docket is its account's mark.
     fn have_marked(&mut self, docket: &Docket) -> Result<(), BoxFault>
-        ensures answer { and_then (judged box_reading result) (λ _. Ok (slip_for (box_of B.Book.opening B.Book.kept B.Book.current self.old.cold) docket.now)) ≡ slip_after (box_of B.Book.opening B.Book.kept B.Book.current self.old.cold) (store_of S.MarkStore.owner_of S.MarkStore.mark S.MarkStore.row self.old.store) (by_store B.Book.valid B.Book.next (box_of B.Book.opening B.Book.kept B.Book.current self.old.cold) (store_of S.MarkStore.owner_of S.MarkStore.mark S.MarkStore.row self.old.store) docket.now) }
-        ensures store { store_of S.MarkStore.owner_of S.MarkStore.mark S.MarkStore.row self.new.store ≡ store_after (store_of S.MarkStore.owner_of S.MarkStore.mark S.MarkStore.row self.old.store) (by_store B.Book.valid B.Book.next (box_of B.Book.opening B.Book.kept B.Book.current self.old.cold) (store_of S.MarkStore.owner_of S.MarkStore.mark S.MarkStore.row self.old.store) docket.now) }
-        ensures left { box_of B.Book.opening B.Book.kept B.Book.current self.new.cold ≡ box_after (box_of B.Book.opening B.Book.kept B.Book.current self.old.cold) (by_store B.Book.valid B.Book.next (box_of B.Book.opening B.Book.kept B.Book.current self.old.cold) (store_of S.MarkStore.owner_of S.MarkStore.mark S.MarkStore.row self.old.store) docket.now) }
-        ensures checker { self.new.cold.checker ≡ self.old.cold.checker }
+        ensures { ActsOn B.Book S.MarkStore self.old self.new (and_then (judged box_reading result) (λ _. Ok (slip_for (state_of B.Book self.old.cold) docket.now))) (by_store_of B.Book S.MarkStore self.old docket.now) }
     {
         if self.is_marked(docket)? {
             return Ok(());
@@ -51,7 +45,7 @@ impl<B: Book, C: Checker, S: MarkStore> ReadyBox<B, C, S> {
     // Whether the docket is its account's mark already. Another mark of its number, or one of a greater number, is
     // refused.
     fn is_marked(&self, docket: &Docket) -> Result<bool, BoxFault>
-        ensures { stood docket.now (by_cover docket.now (uncovered B.Book.valid B.Book.next (box_of B.Book.opening B.Book.kept B.Book.current self.now.cold).current docket.now)) (judged box_reading result) ≡ by_store B.Book.valid B.Book.next (box_of B.Book.opening B.Book.kept B.Book.current self.now.cold) (store_of S.MarkStore.owner_of S.MarkStore.mark S.MarkStore.row self.now.store) docket.now }
+        ensures { stood docket.now (by_cover docket.now (uncovered_in B.Book self.now.cold.book docket.now)) (judged box_reading result) ≡ by_store_of B.Book S.MarkStore self.now docket.now }
     {
         if self.store.owner() != self.cold.number() {
             return Err(BoxFault::OtherOwner);
@@ -64,10 +58,7 @@ impl<B: Book, C: Checker, S: MarkStore> ReadyBox<B, C, S> {
 
     // Makes the docket its account's mark, if it is covered.
     fn write_mark(&mut self, docket: &Docket) -> Result<(), BoxFault>
-        ensures answer { and_then (judged box_reading result) (λ _. Ok (slip_for (box_of B.Book.opening B.Book.kept B.Book.current self.old.cold) docket.now)) ≡ slip_after (box_of B.Book.opening B.Book.kept B.Book.current self.old.cold) (store_of S.MarkStore.owner_of S.MarkStore.mark S.MarkStore.row self.old.store) (by_cover docket.now (uncovered B.Book.valid B.Book.next (box_of B.Book.opening B.Book.kept B.Book.current self.old.cold).current docket.now)) }
-        ensures store { store_of S.MarkStore.owner_of S.MarkStore.mark S.MarkStore.row self.new.store ≡ store_after (store_of S.MarkStore.owner_of S.MarkStore.mark S.MarkStore.row self.old.store) (by_cover docket.now (uncovered B.Book.valid B.Book.next (box_of B.Book.opening B.Book.kept B.Book.current self.old.cold).current docket.now)) }
-        ensures left { box_of B.Book.opening B.Book.kept B.Book.current self.new.cold ≡ level_box (box_of B.Book.opening B.Book.kept B.Book.current self.old.cold) }
-        ensures checker { self.new.cold.checker ≡ self.old.cold.checker }
+        ensures { ActsOn B.Book S.MarkStore self.old self.new (and_then (judged box_reading result) (λ _. Ok (slip_for (state_of B.Book self.old.cold) docket.now))) (by_cover docket.now (uncovered_in B.Book self.old.cold.book docket.now)) }
     {
         if let Some(place) = self.cold.first_invalid_line(docket) {
             return Err(BoxFault::NotCovered(place));

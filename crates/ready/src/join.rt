@@ -1,7 +1,8 @@
 // Making a box ready, and cold again.
 ghost use Rattle.std.specs.Prelude.{◌≡◌};
 ghost use Rattle.pool.specs.Promise.{PoolsAgree};
-ghost use Rattle.settlement.specs.Box.{box_of, restart_box};
+ghost use Rattle.settlement.specs.Box.{restart_box};
+ghost use Rattle.settlement.specs.Seen.{state_of, ComesTo};
 
 use crate::state::ReadyBox;
 use book::Book;
@@ -22,8 +23,7 @@ impl<B: Book, C: Checker, S: MarkStore> ReadyBox<B, C, S> {
 
     // The box, cold and as it was set up, and its store as it is.
     pub fn restart(self) -> (ColdBox<B, C>, S)
-        ensures left { box_of B.Book.opening B.Book.kept B.Book.current result.0 ≡ restart_box (box_of B.Book.opening B.Book.kept B.Book.current self.cold) }
-        ensures checker { result.0.checker ≡ self.cold.checker }
+        ensures cold { ComesTo B.Book self.cold result.0 (restart_box (state_of B.Book self.cold)) }
         ensures store { result.1 ≡ self.store }
     {
         let ReadyBox { cold, store } = self;

@@ -1,10 +1,9 @@
 // Spending slips.
 ghost use Rattle.std.specs.Prelude.{◌≡◌};
 ghost use Rattle.refusals.specs.Reading.{judged};
-ghost use Rattle.settlement.specs.Box.{box_of};
 ghost use Rattle.settlement.specs.Faults.{box_reading};
-ghost use Rattle.pool.specs.Ready.{released_text, buffer_after};
-ghost use Rattle.ready.specs.Seen.{store_of, slip_of, done};
+ghost use Rattle.pool.specs.Ready.{buffer_after};
+ghost use Rattle.ready.specs.Seen.{released_text_of, slip_of, done};
 
 use crate::mark::mark_of;
 use crate::slip::Slip;
@@ -18,8 +17,8 @@ impl<B: Book, C: Checker, S: MarkStore> ReadyBox<B, C, S> {
     // Puts the countersign text of the mark that the slip was made for into the buffer. A refusal leaves the buffer
     // alone. The slip is spent either way.
     pub fn release(&mut self, slip: Slip, out: &mut [u8; 82]) -> Result<(), BoxFault>
-        ensures answer { judged box_reading result ≡ done (released_text (box_of B.Book.opening B.Book.kept B.Book.current self.old.cold) (store_of S.MarkStore.owner_of S.MarkStore.mark S.MarkStore.row self.old.store) (slip_of slip)) }
-        ensures buffer { out.new ≡ buffer_after (released_text (box_of B.Book.opening B.Book.kept B.Book.current self.old.cold) (store_of S.MarkStore.owner_of S.MarkStore.mark S.MarkStore.row self.old.store) (slip_of slip)) out.old }
+        ensures answer { judged box_reading result ≡ done (released_text_of B.Book S.MarkStore self.old (slip_of slip)) }
+        ensures buffer { out.new ≡ buffer_after (released_text_of B.Book S.MarkStore self.old (slip_of slip)) out.old }
         ensures unchanged { self.new ≡ self.old }
     {
         let (maker, account, number) = slip.spend();
@@ -36,7 +35,7 @@ impl<B: Book, C: Checker, S: MarkStore> ReadyBox<B, C, S> {
 
     // The text that a slip of this box, account and number has released.
     fn text(&self, maker: u8, account: u8, number: u64) -> Result<[u8; 82], BoxFault>
-        ensures { judged box_reading result ≡ released_text (box_of B.Book.opening B.Book.kept B.Book.current self.now.cold) (store_of S.MarkStore.owner_of S.MarkStore.mark S.MarkStore.row self.now.store) (record { maker = maker; account = account; number = number }) }
+        ensures { judged box_reading result ≡ released_text_of B.Book S.MarkStore self.now (record { maker = maker; account = account; number = number }) }
     {
         let own = self.cold.number();
         if self.store.owner() != own {

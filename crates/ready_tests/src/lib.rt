@@ -4,10 +4,9 @@
 
 ghost use Rattle.std.specs.Prelude.{◌≡◌};
 ghost use Rattle.refusals.specs.Reading.{judged};
-ghost use Rattle.settlement.specs.Box.{box_of, take_answer};
 ghost use Rattle.settlement.specs.Faults.{box_reading};
-ghost use Rattle.pool.specs.Ready.{released_text};
-ghost use Rattle.ready.specs.Seen.{store_of, slip_of, done};
+ghost use Rattle.settlement.specs.Seen.{take_answer_of};
+ghost use Rattle.ready.specs.Seen.{released_text_of, slip_of, done};
 
 use book::Book;
 use marks::MarkStore;
@@ -23,7 +22,7 @@ pub fn take_cold<B: Book, C: Checker>(
     cold: &mut ColdBox<B, C>,
     bytes: &[u8],
 ) -> Result<u32, BoxFault>
-    ensures { judged box_reading result ≡ take_answer B.Book.valid B.Book.next (C.Checker.good cold.old.checker) (box_of B.Book.opening B.Book.kept B.Book.current cold.old) bytes.now }
+    ensures { judged box_reading result ≡ take_answer_of B.Book C.Checker cold.old bytes.now }
 {
     cold.take(bytes)
 }
@@ -35,8 +34,8 @@ pub fn release_both<B: Book, C: Checker, S: MarkStore>(
     second: Slip,
     out: &mut [u8; 82],
 ) -> (Result<(), BoxFault>, Result<(), BoxFault>)
-    ensures first { judged box_reading result.0 ≡ done (released_text (box_of B.Book.opening B.Book.kept B.Book.current ready.old.cold) (store_of S.MarkStore.owner_of S.MarkStore.mark S.MarkStore.row ready.old.store) (slip_of first)) }
-    ensures second { judged box_reading result.1 ≡ done (released_text (box_of B.Book.opening B.Book.kept B.Book.current ready.old.cold) (store_of S.MarkStore.owner_of S.MarkStore.mark S.MarkStore.row ready.old.store) (slip_of second)) }
+    ensures first { judged box_reading result.0 ≡ done (released_text_of B.Book S.MarkStore ready.old (slip_of first)) }
+    ensures second { judged box_reading result.1 ≡ done (released_text_of B.Book S.MarkStore ready.old (slip_of second)) }
 {
     let one = ready.release(first, out);
     let other = ready.release(second, out);

@@ -1,5 +1,5 @@
 -- A box, and what its calls answer and leave.
-use Rattle.std.specs.Prelude.{ℕ, ◌+◌, ◌*◌, Bool, cond, ◌&&◌, List, replicate, Some, None, Ok, Err, Option, Result, nat_le, nat_lt}
+use Rattle.std.specs.Prelude.{ℕ, ◌+◌, ◌*◌, Bool, cond, ◌&&◌, List, replicate, Some, None, Ok, Option, Result, nat_le, nat_lt}
 use Rattle.refusals.specs.Reading.{Reading, and_then, if_ok}
 use Rattle.docket.specs.declared.Docket.{Docket}
 use Rattle.docket.specs.Layout.{encoded}
@@ -7,8 +7,6 @@ use Rattle.settling.specs.declared.account.Account.{Account}
 use Rattle.settling.specs.Window.{fresh, account_of, stored, waiting}
 use Rattle.settling.specs.Settle.{Ledger, settle_all}
 use Rattle.settlement.specs.declared.cold.ColdBox.{ColdBox}
-use Rattle.settlement.specs.declared.cold.SetUpRefused.{SetUpRefused}
-use Rattle.settlement.specs.Faults.{box_reading}
 use Rattle.settlement.specs.Accept.{refused, accepted, admitted}
 
 -- A box as its calls see it: the pool's number and its own, how many boxes there are and how many countersigns are
@@ -122,8 +120,3 @@ box_of opening kept current b = record {
   current = current b.book;
   accounts = b.accounts.rows;
 }
-
--- an answer of setup, by what the calls see of the box and by its fault's reading
-abbrev pub set_up_seen : {B C State : Type 0} → (B → State) → (B → State) → (B → State) → Result (ColdBox B C) (SetUpRefused B C) → Result (BoxState State) Reading
-set_up_seen opening kept current (Ok b) = Ok (box_of opening kept current b)
-set_up_seen opening kept current (Err e) = Err (box_reading e.fault)

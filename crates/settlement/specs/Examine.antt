@@ -1,9 +1,9 @@
 -- What a box can tell of a docket that a yard hands in, before it looks at any mark.
-use Rattle.std.specs.Prelude.{ℕ, ◌+◌, Bool, cond, not, List, [], ◌∷◌, Some, None, Ok, Option, Result, ◌==◌, nat_lt}
+use Rattle.std.specs.Prelude.{ℕ, Bool, cond, not, List, Ok, Result, ◌==◌, nat_lt}
 use Rattle.refusals.specs.Reading.{Reading, and_then, within}
 use Rattle.refusals.specs.declared.Layer.TheVariants as layer
 use Rattle.docket.specs.declared.Docket.{Docket}
-use Rattle.docket.specs.Layout.{read_docket, used_lines}
+use Rattle.docket.specs.Layout.{read_docket}
 use Rattle.settling.specs.Window.{account_of}
 use Rattle.settlement.specs.Accept.{refused}
 use Rattle.settlement.specs.Box.{BoxState}
@@ -21,15 +21,6 @@ judged_docket good b bs seal d =
 -- the docket that is handed in with a yard's seal
 unfoldable pub examined : {State : Type 0} → (ℕ → List ℕ → List ℕ → Bool) → BoxState State → List ℕ → List ℕ → Result Docket Reading
 examined good b bs seal = and_then (within layer.Box 0 (read_docket bs)) (judged_docket good b bs seal)
-
--- the index of the first line that is not valid in its turn; the first line's is i
-abbrev pub first_invalid : {State : Type 0} → (State → ℕ → List ℕ → Bool) → (State → ℕ → List ℕ → State) → ℕ → ℕ → State → List (List ℕ) → Option ℕ
-first_invalid valid next account i s [] = None
-first_invalid valid next account i s (l ∷ ls) = cond (valid s account l) (first_invalid valid next account (i + 1) (next s account l) ls) (Some i)
-
--- the first line of a docket that keeps it from being covered
-unfoldable pub uncovered : {State : Type 0} → (State → ℕ → List ℕ → Bool) → (State → ℕ → List ℕ → State) → State → Docket → Option ℕ
-uncovered valid next s d = first_invalid valid next d.account 0 s (used_lines d)
 
 -- a box whose lines were tried: its book keeps where it is, and is there again
 abbrev pub level_box : {State : Type 0} → BoxState State → BoxState State

@@ -1,6 +1,6 @@
 // Starting a box again.
-ghost use Rattle.std.specs.Prelude.{◌≡◌};
-ghost use Rattle.settlement.specs.Box.{box_of, restart_box};
+ghost use Rattle.settlement.specs.Box.{restart_box};
+ghost use Rattle.settlement.specs.Seen.{state_of, ComesTo};
 
 use crate::cold::ColdBox;
 use book::Book;
@@ -10,8 +10,7 @@ use settling::Accounts;
 impl<B: Book, C: Checker> ColdBox<B, C> {
     // The box as it was set up: its book starts again from the opening, and nothing waits.
     pub fn restart(mut self) -> ColdBox<B, C>
-        ensures left { box_of B.Book.opening B.Book.kept B.Book.current result ≡ restart_box (box_of B.Book.opening B.Book.kept B.Book.current self) }
-        ensures checker { result.checker ≡ self.checker }
+        ensures { ComesTo B.Book self result (restart_box (state_of B.Book self)) }
     {
         self.book.reset();
         self.accounts = Accounts::new();

@@ -1,8 +1,9 @@
 // Setting a box up.
 ghost use Rattle.std.specs.Prelude.{◌≡◌, ◌≤◌, true, IfOk, IfErr};
 ghost use Rattle.settling.specs.Order.{SettlingIsOrderFree};
-ghost use Rattle.settlement.specs.Box.{in_range, box_of, set_up, set_up_seen};
+ghost use Rattle.settlement.specs.Box.{in_range, set_up};
 ghost use Rattle.settlement.specs.Order.{TakingIsOrderFree};
+ghost use Rattle.settlement.specs.Seen.{state_of, set_up_seen};
 
 use crate::cold::{ColdBox, SetUpRefused};
 use crate::faults::BoxFault;
@@ -22,10 +23,10 @@ impl<B: Book, C: Checker> ColdBox<B, C> {
         mut book: B,
         checker: C,
     ) -> Result<ColdBox<B, C>, SetUpRefused<B, C>>
-        ensures answer { set_up_seen B.Book.opening B.Book.kept B.Book.current result ≡ set_up pool number faulty (B.Book.opening book) }
+        ensures answer { set_up_seen B.Book result ≡ set_up pool number faulty (B.Book.opening book) }
         ensures checker { IfOk result (λ b. b.checker ≡ checker) }
         ensures settling { SettlingIsOrderFree B.Book.valid B.Book.next (B.Book.opening book) }
-        ensures order_free { IfOk result (λ b. TakingIsOrderFree B.Book.valid B.Book.next (C.Checker.good checker) (box_of B.Book.opening B.Book.kept B.Book.current b)) }
+        ensures order_free { IfOk result (λ b. TakingIsOrderFree B.Book.valid B.Book.next (C.Checker.good checker) (state_of B.Book b)) }
         ensures returned { IfErr result (λ e. (e.book ≡ book) × (e.checker ≡ checker)) }
     {
         if !in_range(number, faulty) {

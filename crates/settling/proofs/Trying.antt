@@ -4,7 +4,7 @@ use Rattle.std.specs.Option.{option_map}
 use Rattle.std.proofs.lemmas.List.{at_drop_more, at_drop_all}
 use Rattle.docket.specs.declared.Docket.{Docket}
 use Rattle.docket.specs.Layout.{used_lines}
-use Rattle.settling.specs.Settle.{after_lines, covered, ready, or_else, with_index, lowest_ready}
+use Rattle.settling.specs.Settle.{after_lines, covered, first_invalid, uncovered, ready, or_else, with_index, lowest_ready}
 use Rattle.settling.specs.declared.account.Account.{Account}
 use Rattle.std.proofs.lemmas.Bool.{false≢true}
 
@@ -26,26 +26,42 @@ module _ {State : Type 0} (valid : State → ℕ → List ℕ → Bool) (next : 
   lines_all : (a : ℕ) (s : State) (ls : List (List ℕ)) (i : ℕ) (end : Option State) → length ls ≤ i → after_lines valid next a s (drop i ls) ≡ end → end ≡ Some s
   lines_all a s ls i end h inv = sym inv ∙ at_drop_all (after_lines valid next a s) ls i h
 
-  -- what the trial leaves, with a state before and one after
-  pub record Tried (d : Docket) (s t : State) (r : Bool) : Type 0 where
-    pub answered : r ≡ is_some (covered valid next s d)
-    pub left : t ≡ unwrap_or (covered valid next s d) s
+  first_invalid_line :
+      (a k : ℕ) (s : State) (ls : List (List ℕ)) (i : ℕ) → i < length ls
+      → first_invalid valid next a k s (drop i ls) ≡ cond (valid s a (get_or ls i [])) (first_invalid valid next a (k + 1) (next s a (get_or ls i [])) (drop (i + 1) ls)) (Some k)
+  first_invalid_line a k s ls i h = at_drop_more (first_invalid valid next a k s) ls i [] h
+
+  pub invalid_more :
+      (a : ℕ) (s t : State) (ls : List (List ℕ)) (i : ℕ) (end : Option ℕ) → i < length ls → first_invalid valid next a i s (drop i ls) ≡ end
+      → true ≡ valid s a (get_or ls i []) → t ≡ cond (valid s a (get_or ls i [])) (next s a (get_or ls i [])) s
+      → first_invalid valid next a (i + 1) t (drop (i + 1) ls) ≡ end
+  invalid_more a s t ls i end h inv v e = let f = first_invalid_line a i s ls i h in cc
+
+  -- what a trial of a docket's lines finds, from `start` on
+  pub record Tried (d : Docket) (start : State) (place : Option ℕ) (end : Option State) : Type 0 where
+    pub answer : place ≡ uncovered valid next start d
+    pub covers : covered valid next start d ≡ end
 
   pub tried_stop :
-      (d : Docket) (start s t : State) (ls : List (List ℕ)) (i : ℕ) → ls ≡ used_lines d → i < length ls
+      (d : Docket) (start s : State) (ls : List (List ℕ)) (i : ℕ) → ls ≡ used_lines d → i < length ls
+      → first_invalid valid next d.account i s (drop i ls) ≡ first_invalid valid next d.account 0 start ls
       → after_lines valid next d.account s (drop i ls) ≡ after_lines valid next d.account start ls
-      → false ≡ valid s d.account (get_or ls i []) → t ≡ start → Tried d start t false
-  tried_stop d start s t ls i l h inv v e =
-      let n : covered valid next start d ≡ None = ap (after_lines valid next d.account start) (sym l) ∙ lines_stop d.account s ls i (after_lines valid next d.account start ls) h inv v in
-      record { answered = sym (ap is_some n); left = e ∙ sym (ap (λ o. unwrap_or o start) n) }
+      → false ≡ valid s d.account (get_or ls i []) → Tried d start (Some i) None
+  unfolding uncovered
+  tried_stop d start s ls i l h first end v =
+      let f = first_invalid_line d.account i s ls i h in
+      record { answer = cc; covers = ap (after_lines valid next d.account start) (sym l) ∙ lines_stop d.account s ls i (after_lines valid next d.account start ls) h end v }
 
   pub tried_all :
-      (d : Docket) (start s t : State) (ls : List (List ℕ)) (i : ℕ) → ls ≡ used_lines d → length ls ≤ i
+      (d : Docket) (start s : State) (ls : List (List ℕ)) (i : ℕ) → ls ≡ used_lines d → length ls ≤ i
+      → first_invalid valid next d.account i s (drop i ls) ≡ first_invalid valid next d.account 0 start ls
       → after_lines valid next d.account s (drop i ls) ≡ after_lines valid next d.account start ls
-      → t ≡ s → Tried d start t true
-  tried_all d start s t ls i l h inv e =
-      let n : covered valid next start d ≡ Some s = ap (after_lines valid next d.account start) (sym l) ∙ lines_all d.account s ls i (after_lines valid next d.account start ls) h inv in
-      record { answered = sym (ap is_some n); left = e ∙ sym (ap (λ o. unwrap_or o start) n) }
+      → Tried d start None (Some s)
+  unfolding uncovered
+  tried_all d start s ls i l h first end = record {
+    answer = sym (at_drop_all (first_invalid valid next d.account i s) ls i h) ∙ (first ∙ ap (first_invalid valid next d.account 0 start) l);
+    covers = ap (after_lines valid next d.account start) (sym l) ∙ lines_all d.account s ls i (after_lines valid next d.account start ls) h end;
+  }
 
   first_account :
       (i : ℕ) (s : State) (rows : List Account) (k : ℕ) (o : Account) → k < length rows

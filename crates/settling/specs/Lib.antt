@@ -1,3 +1,4 @@
 pub mod Window
 pub mod Settle
+pub mod Books
 pub mod Order

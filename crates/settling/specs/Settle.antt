@@ -71,3 +71,12 @@ settle_up_to valid next (suc n) l = then_settle (settle_up_to valid next n) l (s
 -- all that can: no more settle than wait
 unfoldable pub settle_all : {State : Type 0} → (State → ℕ → List ℕ → Bool) → (State → ℕ → List ℕ → State) → Ledger State → ℕ × Ledger State
 settle_all valid next l = settle_up_to valid next (waiting_count l.accounts) l
+
+-- the index of the first line that is not valid in its turn; the first line's is i
+abbrev pub first_invalid : {State : Type 0} → (State → ℕ → List ℕ → Bool) → (State → ℕ → List ℕ → State) → ℕ → ℕ → State → List (List ℕ) → Option ℕ
+first_invalid valid next account i s [] = None
+first_invalid valid next account i s (l ∷ ls) = cond (valid s account l) (first_invalid valid next account (i + 1) (next s account l) ls) (Some i)
+
+-- the first line of a docket that keeps it from being covered
+unfoldable pub uncovered : {State : Type 0} → (State → ℕ → List ℕ → Bool) → (State → ℕ → List ℕ → State) → State → Docket → Option ℕ
+uncovered valid next s d = first_invalid valid next d.account 0 s (used_lines d)

@@ -1,10 +1,11 @@
 // Settling: which dockets wait, and how they move the book.
 #![tactic(auto)]
 
-ghost use Rattle.std.specs.Prelude.{◌≡◌, ◌+◌, ◌%◌, ◌<◌, ◌≤◌, true, replicate, is_some, None, nat_le};
+ghost use Rattle.std.specs.Prelude.{◌≡◌, ◌<◌, ◌≤◌, true, not, replicate, is_some, nat_le};
+ghost use Rattle.std.specs.Bool.{then_some};
 ghost use Rattle.std.specs.Option.{unwrap_or, option_map};
 ghost use Rattle.settling.specs.Window.{fresh, cell, waiting, placed, advanced, account_of, stored, advanced_in};
-ghost use Rattle.settling.specs.Settle.{covered, ready, lowest_ready, settle_one, settle_all};
+ghost use Rattle.settling.specs.Books.{Level, Moved, covered_in, uncovered_in, ready_in, lowest_in, all_settled_in, NoneSettles};
 
 pub mod account;
 pub mod accounts;
@@ -42,28 +43,21 @@ impl Account {
     }
 
     // The account with a docket in its cell.
-    fn with(self, docket: Docket) -> Account
+    fn with(mut self, docket: Docket) -> Account
         ensures { result ≡ placed self docket }
     {
-        let mut cells = self.cells;
-        cells[(docket.number % 4) as usize] = Some(docket);
-        Account {
-            next: self.next,
-            cells,
-        }
+        self.cells[(docket.number % 4) as usize] = Some(docket);
+        self
     }
 
     // The account once the docket at its next number has settled.
-    fn advanced(self) -> Account
+    fn advanced(mut self) -> Account
         requires { self.next ≤ 1099511627776 }
         ensures { result ≡ advanced self }
     {
-        let mut cells = self.cells;
-        cells[(self.next % 4) as usize] = None;
-        Account {
-            next: self.next + 1,
-            cells,
-        }
+        self.cells[(self.next % 4) as usize] = None;
+        self.next += 1;
+        self
     }
 }
 
@@ -80,12 +74,8 @@ impl Accounts {
     pub fn get(&self, account: u8) -> Account
         ensures { result ≡ account_of self.now.rows account }
     {
-        let at = account as usize;
-        if at < 64 {
-            self.rows[at]
-        } else {
-            Account::new()
-        }
+        let account = self.rows.get(account as usize);
+        account.copied().unwrap_or(Account::new())
     }
 
     // Puts a docket into its cell; false, and nothing changed, where its number is none that a docket may have.
@@ -115,33 +105,46 @@ impl Accounts {
     }
 }
 
-// Tries a docket's lines in the book, one after another. A covered docket's lines are made and kept; else the book
-// goes back to where it was.
-fn attempt<B: Book>(book: &mut B, docket: &Docket) -> bool
-    requires { B.kept book.old ≡ B.current book.old }
-    ensures answer { result ≡ is_some (covered B.valid B.next (B.current book.old) docket.now) }
-    ensures current { B.current book.new ≡ unwrap_or (covered B.valid B.next (B.current book.old) docket.now) (B.current book.old) }
-    ensures kept { B.kept book.new ≡ B.current book.new }
+// Makes a docket's lines in the book, one after another, until one is not valid: its index. There is none where the
+// docket is covered. What the book keeps stays.
+pub fn apply_lines<B: Book>(book: &mut B, docket: &Docket) -> Option<usize>
+    ensures answer { result ≡ uncovered_in B.Book book.old docket.now }
+    ensures covers { covered_in B.Book book.old docket.now ≡ then_some (not (is_some result)) (B.current book.new) }
+    ensures kept { B.kept book.new ≡ B.kept book.old }
     ensures opening { B.opening book.new ≡ B.opening book.old }
 {
     let lines = docket.used_lines();
-    for line in lines {
+    for (i, line) in lines.iter().enumerate() {
         if !book.apply(docket.account, line) {
-            book.back();
-            return false;
+            return Some(i);
         }
     }
-    book.keep();
-    true
+    None
+}
+
+// A covered docket's lines are made and kept; else the book goes back to where it was.
+fn attempt<B: Book>(book: &mut B, docket: &Docket) -> bool
+    requires { Level B.Book book.old }
+    ensures answer { result ≡ is_some (covered_in B.Book book.old docket.now) }
+    ensures book { Moved B.Book book.old book.new (unwrap_or (covered_in B.Book book.old docket.now) (B.current book.old)) }
+{
+    match apply_lines(book, docket) {
+        None => {
+            book.keep();
+            true
+        }
+        Some(_) => {
+            book.back();
+            false
+        }
+    }
 }
 
 // Tries the docket that waits at an account's next number.
 fn attempt_due<B: Book>(book: &mut B, account: &Account) -> bool
-    requires { B.kept book.old ≡ B.current book.old }
-    ensures answer { result ≡ is_some (ready B.valid B.next (B.current book.old) account.now) }
-    ensures current { B.current book.new ≡ unwrap_or (ready B.valid B.next (B.current book.old) account.now) (B.current book.old) }
-    ensures kept { B.kept book.new ≡ B.current book.new }
-    ensures opening { B.opening book.new ≡ B.opening book.old }
+    requires { Level B.Book book.old }
+    ensures answer { result ≡ is_some (ready_in B.Book book.old account.now) }
+    ensures book { Moved B.Book book.old book.new (unwrap_or (ready_in B.Book book.old account.now) (B.current book.old)) }
 {
     match account.waiting(account.next) {
         Some(docket) => attempt(book, &docket),
@@ -151,11 +154,9 @@ fn attempt_due<B: Book>(book: &mut B, account: &Account) -> bool
 
 // Settles the docket at the next number of the lowest account where one waits and is covered, in the book alone.
 fn attempt_lowest<B: Book>(book: &mut B, rows: &[Account; 64]) -> Option<u8>
-    requires { B.kept book.old ≡ B.current book.old }
-    ensures answer { result ≡ option_map (λ x. x.0) (lowest_ready B.valid B.next 0 (B.current book.old) rows.now) }
-    ensures current { B.current book.new ≡ unwrap_or (option_map (λ x. x.1) (lowest_ready B.valid B.next 0 (B.current book.old) rows.now)) (B.current book.old) }
-    ensures kept { B.kept book.new ≡ B.current book.new }
-    ensures opening { B.opening book.new ≡ B.opening book.old }
+    requires { Level B.Book book.old }
+    ensures answer { result ≡ option_map (λ x. x.0) (lowest_in B.Book book.old rows.now) }
+    ensures book { Moved B.Book book.old book.new (unwrap_or (option_map (λ x. x.1) (lowest_in B.Book book.old rows.now)) (B.current book.old)) }
 {
     for (i, account) in rows.iter().enumerate() {
         if attempt_due(book, account) {
@@ -168,12 +169,10 @@ fn attempt_lowest<B: Book>(book: &mut B, rows: &[Account; 64]) -> Option<u8>
 // Settles what can settle: while some account's docket at its next number waits and is covered, that of the lowest
 // such account. The answer is how many did; none that waits can settle then.
 pub fn settle<B: Book>(book: &mut B, accounts: &mut Accounts) -> u32
-    ensures answer { result ≡ (settle_all B.valid B.next (record { state = B.current book.old; accounts = accounts.old.rows })).0 }
-    ensures current { B.current book.new ≡ (settle_all B.valid B.next (record { state = B.current book.old; accounts = accounts.old.rows })).1.state }
-    ensures accounts { accounts.new.rows ≡ (settle_all B.valid B.next (record { state = B.current book.old; accounts = accounts.old.rows })).1.accounts }
-    ensures kept { B.kept book.new ≡ B.current book.new }
-    ensures opening { B.opening book.new ≡ B.opening book.old }
-    ensures done { settle_one B.valid B.next (record { state = B.current book.new; accounts = accounts.new.rows }) ≡ None }
+    ensures answer { result ≡ (all_settled_in B.Book book.old accounts.old.rows).0 }
+    ensures book { Moved B.Book book.old book.new (all_settled_in B.Book book.old accounts.old.rows).1.state }
+    ensures accounts { accounts.new.rows ≡ (all_settled_in B.Book book.old accounts.old.rows).1.accounts }
+    ensures done { NoneSettles B.Book book.new accounts.new.rows }
 {
     book.keep();
     let mut count = 0;

@@ -1,10 +1,10 @@
 use Rattle.std.proofs.Common.{◌≡◌, refl, inl, inr, arith}
 use Rattle.docket.specs.Layout.{encoded, decoded, read_docket}
 use Rattle.certificate.specs.Layout.{read_head, read_certificate, head_of}
-use Rattle.settling.specs.Settle.{settle_one, settle_all}
+use Rattle.settling.specs.Settle.{settle_one, settle_all, uncovered}
 use Rattle.settlement.specs.Accept.{accepted}
 use Rattle.settlement.specs.Box.{take_box}
-use Rattle.settlement.specs.Examine.{examined, uncovered}
+use Rattle.settlement.specs.Examine.{examined}
 use Rattle.pool.specs.Ready.{finding, released_text}
 use Rattle.book.specs.Pallets.{pallet_valid, pallet_next}
 use Rattle.book.specs.Transfers.{either_order}

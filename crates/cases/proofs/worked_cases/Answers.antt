@@ -1,10 +1,10 @@
 use Rattle.std.proofs.Common.{refl}
 use Rattle.docket.specs.Layout.{encoded, decoded, read_docket}
 use Rattle.certificate.specs.Layout.{read_head, read_certificate, head_of}
-use Rattle.settling.specs.Settle.{settle_one, settle_all}
+use Rattle.settling.specs.Settle.{settle_one, settle_all, uncovered}
 use Rattle.settlement.specs.Accept.{accepted}
 use Rattle.settlement.specs.Box.{take_answer, take_box}
-use Rattle.settlement.specs.Examine.{examined, uncovered}
+use Rattle.settlement.specs.Examine.{examined}
 use Rattle.pool.specs.Ready.{finding}
 use Rattle.workbench.specs.Bench.{bench_roll}
 use Rattle.cases.proofs.worked_cases.Goals as goal
