@@ -1,17 +1,17 @@
 -- The loop over a stream's certificates. Assumes nothing.
-use Rattle.std.proofs.Common.{◌≡◌, ℕ, zero, suc, ◌+◌, ◌-◌, ◌≤◌, Bool, true, false, cond, ltb, List, [], ◌∷◌, ◌++◌, length, take, drop, IfOk, Some, None, Ok, Err, vec_items, Option, Result, Vec, sym, refl, ap, ◌∙◌, arith}
+use Rattle.std.proofs.Common.{◌≡◌, ℕ, zero, suc, ◌+◌, ◌-◌, ◌≤◌, Bool, true, false, cond, ltb, List, [], ◌∷◌, length, take, drop, IfOk, Some, None, Ok, Err, vec_items, Option, Result, Vec, sym, refl, ap, ◌∙◌, arith}
 use Rattle.std.specs.List.{between}
-use Rattle.std.proofs.lemmas.List.{length-drop, drop-drop, append_assoc, append-nil}
+use Rattle.std.proofs.lemmas.List.{length-drop, drop-drop}
 use Rattle.std.proofs.lemmas.Slice.{between_to_end}
 use Rattle.std.proofs.lemmas.Bool.{ltb-false}
 use Rattle.std.proofs.lemmas.Result.{IfOk-weaker}
 use Rattle.std.specs.declared.alloc.AllocError.{AllocError}
 use Rattle.std.specs.declared.alloc.Global.{Global}
 use Rattle.refusals.specs.Reading.{Reading}
-use Rattle.settlement.specs.Box.{BoxState, set_up, take_answer, take_box}
+use Rattle.settlement.specs.Box.{BoxState, set_up}
 use Rattle.workbench.specs.Bench.{started}
 use Rattle.workbench.specs.declared.answer.Answer.{Answer}
-use Rattle.workbench.specs.Stream.{first_size, frame_size, then_frames, frames_up_to, certificates_in, told, answers_to}
+use Rattle.workbench.specs.Stream.{first_size, frame_size, then_frames, frames_up_to, certificates_in, answers_to}
 
 some_since : (a b : Bool) (n m : ℕ) → cond a None (cond b None (Some n)) ≡ Some m → (b ≡ false) × (n ≡ m)
 some_since true b n m e = let z : ◌≡◌ {A = ℕ} 0 1 = cc in absurd (omega arith)
