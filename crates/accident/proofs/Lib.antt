@@ -1,4 +1,3 @@
 mod Certificates
 mod Reports
-mod Rolls
 mod Stands

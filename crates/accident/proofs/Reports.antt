@@ -9,7 +9,7 @@ use Rattle.std.specs.Cmp.Lexicographic.{pointwise}
 use Rattle.std.proofs.lemmas.Bool.{false≢true}
 use Rattle.std.proofs.lemmas.Bool.Decides.{Decides-eqb, Decides-and, Decides-like}
 use Rattle.std.proofs.lemmas.Slice.Eq.{slice_eq-Decides}
-use Rattle.accident.specs.declared.Report.{Report}
+use Rattle.accident.specs.declared.boxes.Report.{Report}
 
 amount_decides : (x y : Option ℕ) → Decides (option_eq eqb x y) (x ≡ y)
 amount_decides None None = (λ h. refl, λ h. refl)

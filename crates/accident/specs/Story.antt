@@ -12,18 +12,16 @@ use Rattle.marks.specs.Outcomes.{ends}
 use Rattle.marks.specs.Table.{owner_in, mark_in, row_in}
 use Rattle.marks.specs.declared.outcome.Outcome.{Outcome}
 use Rattle.marks.specs.declared.outcome.Outcome.TheVariants.{FailsOld, FailsNew}
-use Rattle.marks.specs.declared.table.TableStore.{TableStore}
 use Rattle.book.specs.Pallets.{pallet_valid, pallet_next, pallet_answer}
-use Rattle.book.specs.declared.pallets.PalletBook.{PalletBook}
 use Rattle.settlement.specs.Box.{BoxState, box_of, started_box, restart_box, take_box, next_number}
 use Rattle.pool.specs.Ready.{StoreState, SlipState, Finding, finding, slip_after, store_after, box_after, released_text}
 use Rattle.ready.specs.Seen.{store_of}
-use Rattle.ready.specs.declared.state.ReadyBox.{ReadyBox}
 use Rattle.workbench.specs.Bench.{only_docket, roll_entry}
 use Rattle.accident.specs.declared.dockets.Offer.{Offer}
+use Rattle.accident.specs.declared.boxes.NumberedBox.{NumberedBox}
+use Rattle.accident.specs.declared.boxes.Report.{Report}
 use Rattle.accident.specs.declared.boxes.Votes.{Votes}
 use Rattle.accident.specs.declared.FourBoxes.{FourBoxes}
-use Rattle.accident.specs.declared.Report.{Report}
 
 -- the docket of number 1 that moves all 480 pallets from account 0
 abbrev pub all_pallets : ℕ → Docket
@@ -64,11 +62,15 @@ pub record Stand : Type 0 where
   pub box : BoxState (List ℕ)
   pub store : StoreState
 
-abbrev pub stand_of : {C : Type 0} → ReadyBox PalletBook C TableStore → Stand
-stand_of r = record {
-  box = box_of (λ b. b.opening) (λ b. b.kept) (λ b. b.current) r.cold;
-  store = store_of owner_in mark_in row_in r.store;
+abbrev pub stand_of : {C : Type 0} → NumberedBox C → Stand
+stand_of n = record {
+  box = box_of (λ b. b.opening) (λ b. b.kept) (λ b. b.current) n.ready.cold;
+  store = store_of owner_in mark_in row_in n.ready.store;
 }
+
+-- its checker
+abbrev pub checker_of : {C : Type 0} → NumberedBox C → C
+checker_of n = n.ready.cold.checker
 
 -- set up, beside an unmarked store with a row of outcomes
 abbrev pub started : ℕ → List Outcome → Stand
@@ -172,30 +174,33 @@ voted_at_cut good v =
     (voted good 1 (started 1 (FailsNew ∷ []))
     (voted good 0 (started 0 (FailsOld ∷ [])) v)))
 
--- a ready box stands so, with this checker
-pub record IsAt {C : Type 0} (s : Stand) (checker : C) (b : ReadyBox PalletBook C TableStore) : Type 0 where
+-- a box of this number stands so, with this checker
+pub record IsAt {C : Type 0} (number : ℕ) (s : Stand) (checker : C) (b : NumberedBox C) : Type 0 where
+  pub number_is : b.number ≡ number
   pub stand : stand_of b ≡ s
-  pub judge : b.cold.checker ≡ checker
+  pub judge : checker_of b ≡ checker
 
--- the same of a ready box before and after, which keeps its checker: it was asked, or took a certificate
-pub record WasAsked {C : Type 0} (good : C → ℕ → List ℕ → List ℕ → Bool) (offer : Offer) (b after : ReadyBox PalletBook C TableStore) : Type 0 where
-  pub stand : stand_of after ≡ asked (good b.cold.checker) (stand_of b) offer
-  pub checker : after.cold.checker ≡ b.cold.checker
+-- the same of a box before and after, which keeps its number and its checker: it was asked, or took a certificate
+pub record WasAsked {C : Type 0} (good : C → ℕ → List ℕ → List ℕ → Bool) (offer : Offer) (b after : NumberedBox C) : Type 0 where
+  pub number : after.number ≡ b.number
+  pub stand : stand_of after ≡ asked (good (checker_of b)) (stand_of b) offer
+  pub checker : checker_of after ≡ checker_of b
 
-pub record HasTaken {C : Type 0} (good : C → ℕ → List ℕ → List ℕ → Bool) (bytes : List ℕ) (b after : ReadyBox PalletBook C TableStore) : Type 0 where
-  pub stand : stand_of after ≡ took (good b.cold.checker) (stand_of b) bytes
-  pub checker : after.cold.checker ≡ b.cold.checker
+pub record HasTaken {C : Type 0} (good : C → ℕ → List ℕ → List ℕ → Bool) (bytes : List ℕ) (b after : NumberedBox C) : Type 0 where
+  pub number : after.number ≡ b.number
+  pub stand : stand_of after ≡ took (good (checker_of b)) (stand_of b) bytes
+  pub checker : checker_of after ≡ checker_of b
 
--- the votes after a ready box was asked
-abbrev pub voted_by : {C : Type 0} → (C → ℕ → List ℕ → List ℕ → Bool) → ℕ → ReadyBox PalletBook C TableStore → Votes → Votes
-voted_by good number b v = voted (good b.cold.checker) number (stand_of b) v
+-- the votes after a box was asked
+abbrev pub voted_by : {C : Type 0} → (C → ℕ → List ℕ → List ℕ → Bool) → NumberedBox C → Votes → Votes
+voted_by good b v = voted (good (checker_of b)) b.number (stand_of b) v
 
 -- the votes after all four were asked, in their order
 abbrev pub voted_by_all : {C : Type 0} → (C → ℕ → List ℕ → List ℕ → Bool) → FourBoxes C → Votes → Votes
-voted_by_all good b v = voted_by good 3 b.fourth (voted_by good 2 b.third (voted_by good 1 b.second (voted_by good 0 b.first v)))
+voted_by_all good b v = voted_by good b.fourth (voted_by good b.third (voted_by good b.second (voted_by good b.first v)))
 
 -- each of the four boxes, before and after, keeps to this
-pub record Each {C : Type 0} (R : ReadyBox PalletBook C TableStore → ReadyBox PalletBook C TableStore → Type 0) (b after : FourBoxes C) : Type 0 where
+pub record Each {C : Type 0} (R : NumberedBox C → NumberedBox C → Type 0) (b after : FourBoxes C) : Type 0 where
   pub first : R b.first after.first
   pub second : R b.second after.second
   pub third : R b.third after.third
@@ -204,10 +209,10 @@ pub record Each {C : Type 0} (R : ReadyBox PalletBook C TableStore → ReadyBox 
 -- after power was cut at all four: box 0 in the middle of a write that did not stand, box 1 of one that did, box 2 with
 -- a slip in hand, and box 3 at rest
 pub record WereCut {C : Type 0} (good : C → ℕ → List ℕ → List ℕ → Bool) (checker : C) (offer : Offer) (b : FourBoxes C) : Type 0 where
-  pub first : IsAt (restarted (asked (good checker) (started 0 (FailsOld ∷ [])) offer)) checker b.first
-  pub second : IsAt (restarted (asked (good checker) (started 1 (FailsNew ∷ [])) offer)) checker b.second
-  pub third : IsAt (cut_in_hand (good checker) (started 2 []) offer) checker b.third
-  pub fourth : IsAt (restarted (asked (good checker) (started 3 []) offer)) checker b.fourth
+  pub first : IsAt 0 (restarted (asked (good checker) (started 0 (FailsOld ∷ [])) offer)) checker b.first
+  pub second : IsAt 1 (restarted (asked (good checker) (started 1 (FailsNew ∷ [])) offer)) checker b.second
+  pub third : IsAt 2 (cut_in_hand (good checker) (started 2 []) offer) checker b.third
+  pub fourth : IsAt 3 (restarted (asked (good checker) (started 3 []) offer)) checker b.fourth
 
 -- what all four report
 abbrev pub reports_of : {C : Type 0} → FourBoxes C → List Report

@@ -1,16 +1,22 @@
 // What the program does with a box: setting it up, cutting its power, and asking it to countersign.
 ghost use Rattle.std.specs.Prelude.{◌≡◌, ◌&&◌, length, replicate, is_ok, IfOk, Some, None, nat_le, nat_lt};
 ghost use Rattle.ready.specs.Seen.{slip_of};
-ghost use Rattle.accident.specs.Story.{stand_of, started, restarted, text_for, votes_after, WasAsked, voted_by};
 
 use crate::dockets::{Offer, opening, seal_over};
 use crate::telling::{tell_deed, tell_refusal};
 use anyhow::anyhow;
-use book::PalletBook;
-use marks::{Outcome, TableStore};
+use book::{Book, PalletBook};
+use marks::{MarkStore, Outcome, TableStore};
 use ready::{ReadyBox, Slip};
 use seals::Checker;
 use settlement::ColdBox;
+
+// What a box reports: the balances of accounts 0 to 2, and the next number of account 0.
+#[derive(Clone, Copy, PartialEq, Eq)]
+pub struct Report {
+    pub balances: [Option<u64>; 3],
+    pub next: Option<u64>,
+}
 
 // The countersigns that a yard gathers for an offer: the index of each box's seal in the roll.
 #[derive(Clone, Copy)]
@@ -46,72 +52,100 @@ impl<'a> Votes<'a> {
     }
 }
 
-// A ready box of the pool, beside an unmarked store whose writes end so.
-pub fn set_up<C: Checker + Drop>(
-    number: u8,
-    checker: C,
-    row: &[Outcome],
-) -> anyhow::Result<ReadyBox<PalletBook, C, TableStore>>
-    ensures stand { IfOk result (λ b. stand_of b ≡ started number row.now) }
-    ensures checker { IfOk result (λ b. b.cold.checker ≡ checker) }
-    ensures made { is_ok result ≡ (nat_le (length row.now) 64 && nat_lt number 4) }
-{
-    let book = opening();
-    let Ok(store) = TableStore::new(number, row) else {
-        return Err(anyhow!("the row was refused"));
-    };
-    match ColdBox::set_up(7, number, 1, book, checker) {
-        Ok(cold) => Ok(ReadyBox::join(cold, store)),
-        Err(_) => Err(anyhow!("the box was refused")),
+// One of the four boxes: a ready box of the pool, and its number there.
+#[derive(Drop)]
+pub struct NumberedBox<C> {
+    pub number: u8,
+    pub ready: ReadyBox<PalletBook, C, TableStore>,
+}
+
+impl<C: Checker> NumberedBox<C> {
+    ghost use Rattle.accident.specs.Story.{stand_of, checker_of, started, restarted, text_for, votes_after, report_of, IsAt, WasAsked, HasTaken, voted_by};
+
+    // A box beside an unmarked store whose writes end so.
+    pub fn set_up(number: u8, checker: C, row: &[Outcome]) -> anyhow::Result<NumberedBox<C>>
+    where
+        C: Drop,
+        ensures at { IfOk result (IsAt number (started number row.now) checker) }
+        ensures made { is_ok result ≡ (nat_le (length row.now) 64 && nat_lt number 4) }
+    {
+        let book = opening();
+        let Ok(store) = TableStore::new(number, row) else {
+            return Err(anyhow!("the row was refused"));
+        };
+        match ColdBox::set_up(7, number, 1, book, checker) {
+            Ok(cold) => Ok(NumberedBox {
+                number,
+                ready: ReadyBox::join(cold, store),
+            }),
+            Err(_) => Err(anyhow!("the box was refused")),
+        }
     }
-}
 
-// Power is cut and comes back: the box restarts, and joins its store again.
-pub fn come_back<C: Checker>(
-    ready: ReadyBox<PalletBook, C, TableStore>,
-) -> ReadyBox<PalletBook, C, TableStore>
-    ensures stand { stand_of result ≡ restarted (stand_of ready) }
-    ensures store { result.store ≡ ready.store }
-    ensures checker { result.cold.checker ≡ ready.cold.checker }
-{
-    let (cold, store) = ready.restart();
-    ReadyBox::join(cold, store)
-}
-
-// Releases a slip, and gathers the countersign.
-pub fn give_out<C: Checker>(
-    rt: &HostRuntime,
-    number: u8,
-    ready: &mut ReadyBox<PalletBook, C, TableStore>,
-    slip: Slip,
-    votes: &mut Votes,
-) -> anyhow::Result<()>
-    ensures unchanged { ready.new ≡ ready.old }
-    ensures votes { votes.new ≡ votes_after number votes.old (text_for (stand_of ready.old) (slip_of slip)) }
-{
-    let mut text = [0u8; 82];
-    if let Err(fault) = ready.release(slip, &mut text) {
-        return tell_refusal(rt, number, fault);
+    // Power is cut and comes back: the box restarts, and joins its store again.
+    pub fn come_back(self) -> NumberedBox<C>
+        ensures number { result.number ≡ self.number }
+        ensures stand { stand_of result ≡ restarted (stand_of self) }
+        ensures store { result.ready.store ≡ self.ready.store }
+        ensures checker { checker_of result ≡ checker_of self }
+    {
+        let NumberedBox { number, ready } = self;
+        let (cold, store) = ready.restart();
+        NumberedBox {
+            number,
+            ready: ReadyBox::join(cold, store),
+        }
     }
-    let Some(seal) = seal_over(votes.roll, number, &text) else {
-        return Err(anyhow!("a text that nobody has sealed"));
-    };
-    votes.gather(number, seal);
-    tell_deed(rt, number, "countersigns", votes.offer.name)
-}
 
-// Asks a box to countersign a docket, and to release the countersign at once.
-pub fn ask_for<C: Checker>(
-    rt: &HostRuntime,
-    number: u8,
-    ready: &mut ReadyBox<PalletBook, C, TableStore>,
-    votes: &mut Votes,
-) -> anyhow::Result<()>
-    ensures asked { WasAsked C.good votes.old.offer ready.old ready.new }
-    ensures votes { votes.new ≡ voted_by C.good number ready.old votes.old }
-{
-    match ready.countersign(&votes.offer.docket.to_bytes(), &[0, votes.offer.seal]) {
-        Ok(slip) => give_out(rt, number, ready, slip, votes),
-        Err(fault) => tell_refusal(rt, number, fault),
+    // Releases a slip, and gathers the countersign.
+    pub fn give_out(
+        &mut self,
+        rt: &HostRuntime,
+        slip: Slip,
+        votes: &mut Votes,
+    ) -> anyhow::Result<()>
+        ensures unchanged { self.new ≡ self.old }
+        ensures votes { votes.new ≡ votes_after self.old.number votes.old (text_for (stand_of self.old) (slip_of slip)) }
+    {
+        let mut text = [0u8; 82];
+        if let Err(fault) = self.ready.release(slip, &mut text) {
+            return tell_refusal(rt, self.number, fault);
+        }
+        let Some(seal) = seal_over(votes.roll, self.number, &text) else {
+            return Err(anyhow!("a text that nobody has sealed"));
+        };
+        votes.gather(self.number, seal);
+        tell_deed(rt, self.number, "countersigns", votes.offer.name)
+    }
+
+    // Asks the box to countersign a docket, and to release the countersign at once.
+    pub fn ask_for(&mut self, rt: &HostRuntime, votes: &mut Votes) -> anyhow::Result<()>
+        ensures asked { WasAsked C.good votes.old.offer self.old self.new }
+        ensures votes { votes.new ≡ voted_by C.good self.old votes.old }
+    {
+        let seal = [0, votes.offer.seal];
+        match self
+            .ready
+            .countersign(&votes.offer.docket.to_bytes(), &seal)
+        {
+            Ok(slip) => self.give_out(rt, slip, votes),
+            Err(fault) => tell_refusal(rt, self.number, fault),
+        }
+    }
+
+    // The box takes a certificate, and reports.
+    pub fn hand_in(&mut self, rt: &HostRuntime, certificate: &[u8]) -> anyhow::Result<Report>
+        ensures took { HasTaken C.good certificate.now self.old self.new }
+        ensures report { IfOk result (λ p. p ≡ report_of (stand_of self.new)) }
+    {
+        let number = self.number;
+        match self.ready.take(certificate) {
+            Ok(count) => println!(rt; "  box {number}: settles {count}")?,
+            Err(fault) => tell_refusal(rt, number, fault)?,
+        }
+        Ok(Report {
+            balances: [0, 1, 2].map(|account| self.ready.ask(account)),
+            next: self.ready.next_number(0),
+        })
     }
 }

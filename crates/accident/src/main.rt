@@ -9,33 +9,26 @@ mod telling;
 ghost use Rattle.std.specs.Prelude.{◌≡◌, take, IfOk, Ok, OnErr, OnOk};
 ghost use Rattle.certificate.specs.Layout.{read_certificate, contents_of};
 ghost use Rattle.ready.specs.Seen.{slip_of};
-ghost use Rattle.accident.specs.Story.{stand_of, started, restarted, asked, text_for, votes_after, voted, cut_in_hand, voted_late, voted_at_cut, signers_in, seals_in, certified_answer, certified_buffer, certificate_of, report_of, reports_of, IsAt, WasAsked, HasTaken, voted_by_all, Each, WereCut, Agreed};
+ghost use Rattle.accident.specs.Story.{stand_of, checker_of, started, restarted, asked, text_for, votes_after, voted, cut_in_hand, voted_late, voted_at_cut, signers_in, seals_in, certified_answer, certified_buffer, certificate_of, reports_of, IsAt, WasAsked, HasTaken, voted_by_all, Each, WereCut, Agreed};
 
-use crate::boxes::{Votes, ask_for, come_back, give_out, set_up};
+use crate::boxes::{NumberedBox, Report, Votes};
 use crate::dockets::{offer_to, roll};
 use crate::telling::{say, tell_deed, tell_refusal};
 use anyhow::anyhow;
-use book::{Book, PalletBook};
 use certificate::{Certificate, Signer};
-use marks::{MarkStore, Outcome, TableStore};
-use ready::{ReadyBox, Slip};
+use marks::Outcome;
+use ready::Slip;
 use seals::{Checker, Roll};
 use std::alloc::{AllocError, Global};
 
-// The four boxes of the pool.
+// The four boxes of the pool. No array: power is cut at each in another way, and after a loop over `iter_mut` a proof
+// knows nothing of the elements.
 #[derive(Drop)]
 struct FourBoxes<C> {
-    first: ReadyBox<PalletBook, C, TableStore>,
-    second: ReadyBox<PalletBook, C, TableStore>,
-    third: ReadyBox<PalletBook, C, TableStore>,
-    fourth: ReadyBox<PalletBook, C, TableStore>,
-}
-
-// What a box reports: the balances of accounts 0 to 2, and the next number of account 0.
-#[derive(Clone, Copy, PartialEq, Eq)]
-struct Report {
-    balances: [Option<u64>; 3],
-    next: Option<u64>,
+    first: NumberedBox<C>,
+    second: NumberedBox<C>,
+    third: NumberedBox<C>,
+    fourth: NumberedBox<C>,
 }
 
 // Tells that a box has made a slip, and that power is cut then.
@@ -51,18 +44,16 @@ fn tell_cut(rt: &HostRuntime, number: u8, name: char) -> anyhow::Result<()> {
 // printed.
 fn release_late<C: Checker + Drop>(
     rt: &HostRuntime,
-    number: u8,
-    ready: ReadyBox<PalletBook, C, TableStore>,
+    numbered: NumberedBox<C>,
     slip: Slip,
     votes: &mut Votes,
-) -> anyhow::Result<ReadyBox<PalletBook, C, TableStore>>
-    ensures stand { IfOk result (λ b. stand_of b ≡ restarted (stand_of ready)) }
-    ensures checker { IfOk result (λ b. b.cold.checker ≡ ready.cold.checker) }
-    ensures votes { votes.new ≡ votes_after number votes.old (text_for (restarted (stand_of ready)) (slip_of slip)) }
+) -> anyhow::Result<NumberedBox<C>>
+    ensures at { IfOk result (IsAt numbered.number (restarted (stand_of numbered)) (checker_of numbered)) }
+    ensures votes { votes.new ≡ votes_after numbered.number votes.old (text_for (restarted (stand_of numbered)) (slip_of slip)) }
 {
-    let told = tell_cut(rt, number, votes.offer.name);
-    let mut back = come_back(ready);
-    give_out(rt, number, &mut back, slip, votes)?;
+    let told = tell_cut(rt, numbered.number, votes.offer.name);
+    let mut back = numbered.come_back();
+    back.give_out(rt, slip, votes)?;
     told?;
     Ok(back)
 }
@@ -70,19 +61,21 @@ fn release_late<C: Checker + Drop>(
 // A box is asked to countersign a docket, and cut with the slip in hand.
 fn cut_with_slip<C: Checker + Drop>(
     rt: &HostRuntime,
-    number: u8,
-    mut ready: ReadyBox<PalletBook, C, TableStore>,
+    mut numbered: NumberedBox<C>,
     votes: &mut Votes,
-) -> anyhow::Result<ReadyBox<PalletBook, C, TableStore>>
-    ensures stand { IfOk result (λ b. stand_of b ≡ cut_in_hand (C.good ready.cold.checker) (stand_of ready) votes.old.offer) }
-    ensures checker { IfOk result (λ b. b.cold.checker ≡ ready.cold.checker) }
-    ensures votes { votes.new ≡ voted_late (C.good ready.cold.checker) number (stand_of ready) votes.old }
+) -> anyhow::Result<NumberedBox<C>>
+    ensures at { IfOk result (IsAt numbered.number (cut_in_hand (C.good (checker_of numbered)) (stand_of numbered) votes.old.offer) (checker_of numbered)) }
+    ensures votes { votes.new ≡ voted_late (C.good (checker_of numbered)) numbered.number (stand_of numbered) votes.old }
 {
-    match ready.countersign(&votes.offer.docket.to_bytes(), &[0, votes.offer.seal]) {
-        Ok(slip) => release_late(rt, number, ready, slip, votes),
+    let seal = [0, votes.offer.seal];
+    match numbered
+        .ready
+        .countersign(&votes.offer.docket.to_bytes(), &seal)
+    {
+        Ok(slip) => release_late(rt, numbered, slip, votes),
         Err(fault) => {
-            tell_refusal(rt, number, fault)?;
-            Ok(ready)
+            tell_refusal(rt, numbered.number, fault)?;
+            Ok(numbered)
         }
     }
 }
@@ -94,13 +87,13 @@ fn cut_at<C: Checker + Drop>(
     checker: C,
     row: &[Outcome],
     votes: &mut Votes,
-) -> anyhow::Result<ReadyBox<PalletBook, C, TableStore>>
-    ensures at { IfOk result (IsAt (restarted (asked (C.good checker) (started number row.now) votes.old.offer)) checker) }
+) -> anyhow::Result<NumberedBox<C>>
+    ensures at { IfOk result (IsAt number (restarted (asked (C.good checker) (started number row.now) votes.old.offer)) checker) }
     ensures votes { OnOk result (votes.new ≡ voted (C.good checker) number (started number row.now) votes.old) }
 {
-    let mut ready = set_up(number, checker, row)?;
-    ask_for(rt, number, &mut ready, votes)?;
-    Ok(come_back(ready))
+    let mut numbered = NumberedBox::set_up(number, checker, row)?;
+    numbered.ask_for(rt, votes)?;
+    Ok(numbered.come_back())
 }
 
 // P is handed to all four boxes, and power is cut at each: at box 0 in the middle of a write that does not stand, at
@@ -116,11 +109,11 @@ fn cut<C: Checker + Copy + Drop>(
     let first = cut_at(rt, 0, checker, &[Outcome::FailsOld], votes)?;
     let second = cut_at(rt, 1, checker, &[Outcome::FailsNew], votes)?;
     let fourth = cut_at(rt, 3, checker, &[], votes)?;
-    let third = set_up(2, checker, &[])?;
+    let third = NumberedBox::set_up(2, checker, &[])?;
     Ok(FourBoxes {
         first,
         second,
-        third: cut_with_slip(rt, 2, third, votes)?,
+        third: cut_with_slip(rt, third, votes)?,
         fourth,
     })
 }
@@ -134,31 +127,11 @@ fn hand_out<C: Checker>(
     ensures asked { OnOk result (Each (WasAsked C.good votes.old.offer) boxes.old boxes.new) }
     ensures votes { OnOk result (votes.new ≡ voted_by_all C.good boxes.old votes.old) }
 {
-    ask_for(rt, 0, &mut boxes.first, votes)?;
-    ask_for(rt, 1, &mut boxes.second, votes)?;
-    ask_for(rt, 2, &mut boxes.third, votes)?;
-    ask_for(rt, 3, &mut boxes.fourth, votes)?;
+    boxes.first.ask_for(rt, votes)?;
+    boxes.second.ask_for(rt, votes)?;
+    boxes.third.ask_for(rt, votes)?;
+    boxes.fourth.ask_for(rt, votes)?;
     Ok(())
-}
-
-// A box takes a certificate, and reports.
-fn hand_in<C: Checker>(
-    rt: &HostRuntime,
-    number: u8,
-    ready: &mut ReadyBox<PalletBook, C, TableStore>,
-    certificate: &[u8],
-) -> anyhow::Result<Report>
-    ensures took { HasTaken C.good certificate.now ready.old ready.new }
-    ensures report { IfOk result (λ p. p ≡ report_of (stand_of ready.new)) }
-{
-    match ready.take(certificate) {
-        Ok(count) => println!(rt; "  box {number}: settles {count}")?,
-        Err(fault) => tell_refusal(rt, number, fault)?,
-    }
-    Ok(Report {
-        balances: [0, 1, 2].map(|account| ready.ask(account)),
-        next: ready.next_number(0),
-    })
 }
 
 // The boxes whose seals were gathered, in their order, and those seals end to end.
@@ -223,10 +196,10 @@ fn take_all<C: Checker>(
     ensures agreed { IfOk result (Agreed (reports_of boxes.new)) }
 {
     let reports = [
-        hand_in(rt, 0, &mut boxes.first, certificate)?,
-        hand_in(rt, 1, &mut boxes.second, certificate)?,
-        hand_in(rt, 2, &mut boxes.third, certificate)?,
-        hand_in(rt, 3, &mut boxes.fourth, certificate)?,
+        boxes.first.hand_in(rt, certificate)?,
+        boxes.second.hand_in(rt, certificate)?,
+        boxes.third.hand_in(rt, certificate)?,
+        boxes.fourth.hand_in(rt, certificate)?,
     ];
     Ok(in_common(&reports))
 }
@@ -260,8 +233,8 @@ fn offer_both<C: Checker + Copy + Drop>(
     say(rt, "S is handed to all four:")?;
     hand_out(rt, &mut boxes, s)?;
     say(rt, "P is handed to boxes 0 and 1 again:")?;
-    ask_for(rt, 0, &mut boxes.first, p)?;
-    ask_for(rt, 1, &mut boxes.second, p)?;
+    boxes.first.ask_for(rt, p)?;
+    boxes.second.ask_for(rt, p)?;
     Ok(boxes)
 }
 

@@ -1,17 +1,17 @@
 -- The loop over a stream's certificates. Assumes nothing.
-use Rattle.std.proofs.Common.{◌≡◌, ℕ, zero, suc, ◌+◌, ◌-◌, ◌≤◌, Bool, true, false, cond, ltb, List, [], ◌∷◌, ◌++◌, length, take, drop, IfOk, Some, None, Ok, Err, vec_items, Option, Result, Vec, sym, refl, ap, ◌∙◌, arith}
+use Rattle.std.proofs.Common.{◌≡◌, ℕ, zero, suc, ◌+◌, ◌-◌, ◌≤◌, Bool, true, false, cond, ltb, List, [], ◌∷◌, length, take, drop, IfOk, Some, None, Ok, Err, vec_items, Option, Result, Vec, sym, refl, ap, ◌∙◌, arith}
 use Rattle.std.specs.List.{between}
-use Rattle.std.proofs.lemmas.List.{length-drop, drop-drop, append_assoc, append-nil}
+use Rattle.std.proofs.lemmas.List.{length-drop, drop-drop}
 use Rattle.std.proofs.lemmas.Slice.{between_to_end}
 use Rattle.std.proofs.lemmas.Bool.{ltb-false}
 use Rattle.std.proofs.lemmas.Result.{IfOk-weaker}
 use Rattle.std.specs.declared.alloc.AllocError.{AllocError}
 use Rattle.std.specs.declared.alloc.Global.{Global}
 use Rattle.refusals.specs.Reading.{Reading}
-use Rattle.settlement.specs.Box.{BoxState, set_up, take_answer, take_box}
+use Rattle.settlement.specs.Box.{BoxState, set_up}
 use Rattle.workbench.specs.Bench.{started}
 use Rattle.workbench.specs.declared.answer.Answer.{Answer}
-use Rattle.workbench.specs.Stream.{first_size, frame_size, then_frames, frames_up_to, certificates_in, told, answers_to}
+use Rattle.workbench.specs.Stream.{first_size, frame_size, then_frames, frames_up_to, certificates_in, answers_to}
 
 some_since : (a b : Bool) (n m : ℕ) → cond a None (cond b None (Some n)) ≡ Some m → (b ≡ false) × (n ≡ m)
 some_since true b n m e = let z : ◌≡◌ {A = ℕ} 0 1 = cc in absurd (omega arith)
@@ -69,25 +69,6 @@ unfolding certificates_in
 frames_none stream e =
     let f : frames_up_to (length stream) stream ≡ frames_up_to (suc (length stream)) stream = enough (length stream) (suc (length stream)) stream (omega arith) (omega arith) in
     f ∙ ap (then_frames (frames_up_to (length stream)) stream) (sym e)
-
-module _ {State : Type 0} (valid : State → ℕ → List ℕ → Bool) (next : State → ℕ → List ℕ → State) (good : ℕ → List ℕ → List ℕ → Bool) where
-  -- a turn: the answer goes behind those that were given before
-  pub answers_more :
-      (b b' : BoxState State) (cs rest : List (List ℕ)) (c : List ℕ) (before after : List Answer) (a : Answer) (all : List Answer)
-      → before ++ answers_to valid next good b cs ≡ all → cs ≡ c ∷ rest
-      → a ≡ told (take_answer valid next good b c) → b' ≡ take_box valid next good b c
-      → after ≡ before ++ (a ∷ []) → after ++ answers_to valid next good b' rest ≡ all
-  answers_more b b' cs rest c before after a all inv f t l p =
-      let others = answers_to valid next good b' rest in
-      let g : answers_to valid next good b cs ≡ a ∷ others = rw (f, t, l) in
-      let h : (before ++ (a ∷ [])) ++ others ≡ before ++ (a ∷ others) = append_assoc before (a ∷ []) others in
-      cc
-
-  pub answers_all :
-      (b : BoxState State) (cs : List (List ℕ)) (given all : List Answer) → given ++ answers_to valid next good b cs ≡ all → cs ≡ [] → given ≡ all
-  answers_all b cs given all inv f =
-      let g : answers_to valid next good b cs ≡ [] = ap (answers_to valid next good b) f in
-      sym (append-nil given) ∙ (ap (λ (r : List Answer). given ++ r) (sym g) ∙ inv)
 
 -- setup of box 0 in a pool of four
 pub never_refused : {State : Type 0} (o : State) (r : Reading) → Err r ≡ set_up 7 0 1 o → ⊥

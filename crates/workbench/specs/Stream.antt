@@ -2,7 +2,11 @@
 use Rattle.std.specs.Prelude.{ℕ, zero, suc, ◌+◌, ◌*◌, Bool, cond, List, [], ◌∷◌, length, drop, Some, None, Ok, Err, Option, Result, nat_lt, slice_index}
 use Rattle.std.specs.List.{between}
 use Rattle.refusals.specs.Reading.{Reading, cause}
+use Rattle.book.specs.declared.Book.{Ghosts}
+use Rattle.seals.specs.declared.Checker.{Ghosts as Judging}
+use Rattle.settlement.specs.declared.cold.ColdBox.{ColdBox}
 use Rattle.settlement.specs.Box.{BoxState, take_answer, take_box}
+use Rattle.settlement.specs.Seen.{state_of}
 use Rattle.workbench.specs.declared.answer.Answer.{Answer}
 use Rattle.workbench.specs.declared.answer.Answer.TheVariants.{Settled, Refused}
 
@@ -34,3 +38,7 @@ told (Err fault) = Refused (cause fault)
 abbrev pub answers_to : {State : Type 0} → (State → ℕ → List ℕ → Bool) → (State → ℕ → List ℕ → State) → (ℕ → List ℕ → List ℕ → Bool) → BoxState State → List (List ℕ) → List Answer
 answers_to valid next good b [] = []
 answers_to valid next good b (c ∷ cs) = told (take_answer valid next good b c) ∷ answers_to valid next good (take_box valid next good b c) cs
+
+-- the same of a box value, by what its book and its checker show
+abbrev pub answers_of : {B C Q A : Type 0} → Ghosts B Q A → Judging C → ColdBox B C → List (List ℕ) → List Answer
+answers_of k g b cs = answers_to k.valid k.next (g.good b.checker) (state_of k b) cs

@@ -1,8 +1,8 @@
 // A stream of certificates, each after its length in two bytes, and what a box answers to it.
 ghost use Rattle.std.specs.Prelude.{◌≡◌, ◌+◌, ◌≤◌, length, IfSome, IfOk};
 ghost use Rattle.std.specs.Iterator.{YieldsFirstRef, item_count};
-ghost use Rattle.settlement.specs.Box.{box_of, take_answer, take_box};
-ghost use Rattle.workbench.specs.Stream.{frame_size, certificates_in, told, answers_to};
+ghost use Rattle.settlement.specs.Seen.{ComesTo, take_answer_of, take_box_of};
+ghost use Rattle.workbench.specs.Stream.{frame_size, certificates_in, told, answers_to, answers_of};
 ghost use Rattle.workbench.specs.Bench.{started};
 
 use crate::answer::Answer;
@@ -56,9 +56,8 @@ impl<'a> Iterator for Certificates<'a> {
 
 // Hands a certificate to a box.
 pub fn hand_in<B: Book, C: Checker>(cold: &mut ColdBox<B, C>, certificate: &[u8]) -> Answer
-    ensures answer { result ≡ told (take_answer B.Book.valid B.Book.next (C.Checker.good cold.old.checker) (box_of B.Book.opening B.Book.kept B.Book.current cold.old) certificate.now) }
-    ensures left { box_of B.Book.opening B.Book.kept B.Book.current cold.new ≡ take_box B.Book.valid B.Book.next (C.Checker.good cold.old.checker) (box_of B.Book.opening B.Book.kept B.Book.current cold.old) certificate.now }
-    ensures checker { cold.new.checker ≡ cold.old.checker }
+    ensures answer { result ≡ told (take_answer_of B.Book C.Checker cold.old certificate.now) }
+    ensures left { ComesTo B.Book cold.old cold.new (take_box_of B.Book C.Checker cold.old certificate.now) }
 {
     match cold.take(certificate) {
         Ok(count) => Answer::Settled(count),
@@ -72,7 +71,7 @@ fn answer_each<B: Book, C: Checker>(
     cold: &mut ColdBox<B, C>,
     stream: &[u8],
 ) -> Result<Vec<Answer>, AllocError>
-    ensures { IfOk result (λ v. v.items ≡ answers_to B.Book.valid B.Book.next (C.Checker.good cold.old.checker) (box_of B.Book.opening B.Book.kept B.Book.current cold.old) (certificates_in stream.now)) }
+    ensures { IfOk result (λ v. v.items ≡ answers_of B.Book C.Checker cold.old (certificates_in stream.now)) }
 {
     let mut answers = Vec::new(heap);
     for certificate in Certificates::new(stream) {

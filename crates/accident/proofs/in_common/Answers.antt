@@ -1,7 +1,7 @@
 use Rattle.std.proofs.Common.{◌≡◌, true, false, [], None, get_or, sym, ◌∙◌, subst, rules}
 use Rattle.std.proofs.lemmas.Bool.{false≢true}
 use Rattle.std.proofs.lemmas.Iterator.{cases_from_all, YieldsList-from_slice}
-use Rattle.accident.specs.declared.Report.{Report}
+use Rattle.accident.specs.declared.boxes.Report.{Report}
 use Rattle.accident.specs.Story.{Agreed}
 use Rattle.accident.proofs.Reports.{same, report_decides, agreed_by}
 use Rattle.accident.proofs.in_common.Goals as goal
