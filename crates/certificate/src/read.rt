@@ -153,14 +153,12 @@ fn wrong_field(boxes: u8, least: u16, place: u32, reserved: u8, entry: Entry) ->
     }
 }
 
-// The docket that starts at `at`.
-fn read_docket(head: &[u8], at: usize) -> Result<Docket, CertificateFault>
-    requires { at + 80 ≤ length head.now }
-    ensures { judged certificate_reading result ≡ read_inner at head.now }
+// The docket that starts at `place`.
+fn read_docket(head: &[u8], place: usize) -> Result<Docket, CertificateFault>
+    requires { place + 80 ≤ length head.now }
+    ensures { judged certificate_reading result ≡ read_inner place head.now }
 {
-    let docket = Docket::read(&head[at..at + 80]).map_err(|fault| DocketFaultAt {
-        place: at,
-        fault,
-    })?;
+    let bytes = &head[place..place + 80];
+    let docket = Docket::read(bytes).map_err(|fault| DocketFaultAt { place, fault })?;
     Ok(docket)
 }
