@@ -4,7 +4,7 @@ use mathlib.Core.Path.{fun_ext}
 use Rattle.docket.specs.declared.Docket.{Docket}
 use Rattle.refusals.specs.Reading.{Reading}
 use Rattle.settlement.specs.Box.{BoxState, started_box, set_up}
-use Rattle.marks.specs.Outcomes.{ends}
+use Rattle.marks.specs.Outcomes.{End, ends}
 use Rattle.marks.specs.declared.outcome.Outcome.{Outcome}
 use Rattle.accident.specs.Story.{opening_balances, started}
 
