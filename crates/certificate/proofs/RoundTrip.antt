@@ -1,11 +1,12 @@
 -- What is written reads back equal, and what is read is written as the same bytes. Assumes nothing.
 use Rattle.std.proofs.Common.{◌≡◌, ℕ, suc, ◌+◌, ◌-◌, ◌*◌, ◌/◌, ◌%◌, ◌<◌, ◌≤◌, List, [], ◌∷◌, ◌++◌, map, length, get_or, take, drop, IfOk, Ok, Err, Result, sym, refl, ap, ◌∙◌, subst, arith, take-add}
+use Rattle.std.specs.Int.{w32, to_be_bytes}
 use Rattle.std.specs.List.{between}
-use Rattle.std.proofs.lemmas.List.{append_assoc, take_at, drop_at, take_all, take-append-drop, length-append, length-map, length-take-le, length-drop, drop-drop, get_or-drop, get_or-take}
+use Rattle.std.proofs.lemmas.List.{append_assoc, take_at, drop_at, take_all, take-append-drop, length-append, length-map, length-take-le, length-drop, drop-drop, get_or-take}
 use Rattle.std.proofs.lemmas.List.Edits.{length-between}
 use Rattle.docket.specs.declared.Docket.{Docket}
-use Rattle.docket.specs.Layout.{bytes4, encoded, Sized, read_docket}
-use Rattle.docket.proofs.RoundTrip.{digits4, read_encoded, length_encoded, read_written}
+use Rattle.docket.specs.Layout.{encoded, Sized, read_docket}
+use Rattle.docket.proofs.RoundTrip.{digits4, take_bytes, drop_bytes, read_encoded, length_encoded, read_written}
 use Rattle.certificate.specs.Contents.{Contents, contents}
 use Rattle.certificate.specs.Table.{entry_of, placed, row, rows}
 use Rattle.certificate.specs.Layout.{seen, read_head, read_certificate, Accepted, head_of, laid_out, contents_of}
@@ -13,7 +14,7 @@ use Rattle.certificate.specs.declared.faults.CertificateFault.{CertificateFault}
 use Rattle.certificate.specs.declared.value.Certificate.{Certificate}
 use Rattle.certificate.specs.declared.table.Entry.{Entry}
 use Rattle.certificate.specs.declared.table.Signer.{Signer}
-use Rattle.certificate.proofs.Parts.{part, bytes_take, bytes_between, spelled, spell}
+use Rattle.certificate.proofs.Parts.{part, bytes_between, spelled, spell}
 use Rattle.certificate.proofs.Accepted.{Good, AllGood, AcceptedHead, accepted_head, whole_head, accepted}
 
 -- the bytes of an entry that was read are those that it was read from
@@ -27,9 +28,9 @@ row_same boxes least place r e l b g =
     let w : r ≡ spelled 8 0 r = sym (take_all 8 r (omega arith)) ∙ spell 8 0 r (omega arith) in
     let x : (get_or r 2 0 * 256 + get_or r 3 0) / 256 ≡ get_or r 2 0 = omega (arith, b 3) in
     let y : (get_or r 2 0 * 256 + get_or r 3 0) % 256 ≡ get_or r 3 0 = omega (arith, b 3) in
-    let p : place ≡ get_or r 4 0 * 16777216 + get_or r 5 0 * 65536 + get_or r 6 0 * 256 + get_or r 7 0 =
-    sym g.starts ∙ (ap (λ v. v.place) g.is ∙ simp get_or-drop) in
-    let q : bytes4 place ≡ get_or r 4 0 ∷ get_or r 5 0 ∷ get_or r 6 0 ∷ get_or r 7 0 ∷ [] = ap bytes4 p ∙ digits4 _ _ _ _ (b 4) (b 5) (b 6) (b 7) in
+    let l4 : 4 ≤ length (drop 4 r) = omega (arith, length-drop 4 r) in
+    let q : to_be_bytes w32 place ≡ spelled 4 4 r =
+    ap (to_be_bytes w32) (sym g.starts ∙ ap (λ v. v.place) g.is) ∙ (digits4 (drop 4 r) (drop_bytes 4 r b) l4 ∙ spell 4 4 r (omega arith)) in
     ap (λ v. row v.signer place) g.is ∙ (cells (get_or r 0 0) 0 (get_or r 1 0) _ _ _ _ _ _ (sym g.blank) x y q ∙ sym w)
 
 rows_same :
@@ -81,7 +82,7 @@ same_bytes boxes bs k b h =
     let n : length k.entries ≡ get_or bs 0 0 = a.number in
     let l : length (take (84 + 8 * get_or bs 0 0) bs) ≡ 84 + 8 * get_or bs 0 0 = length-take-le (84 + 8 * get_or bs 0 0) bs a.count.whole in
     let f : get_or (take (84 + 8 * get_or bs 0 0) bs) 0 0 ≡ get_or bs 0 0 = get_or-take (84 + 8 * get_or bs 0 0) bs 0 0 (omega arith) in
-    let t = head_same boxes (length bs) m (take (84 + 8 * m) bs) k (bytes_take bs (84 + 8 * m) b) l f a in
+    let t = head_same boxes (length bs) m (take (84 + 8 * m) bs) k (take_bytes (84 + 8 * m) bs b) l f a in
     ap (λ x. x ++ drop (84 + 8 * length k.entries) bs) t
     ∙ (ap (λ j. take (84 + 8 * m) bs ++ drop (84 + 8 * j) bs) n ∙ take-append-drop (84 + 8 * m) bs)
 

@@ -1,7 +1,9 @@
 -- The loop that reads the table. Assumes nothing.
-use Rattle.std.proofs.Common.{◌≡◌, ℕ, suc, ◌+◌, ◌-◌, ◌*◌, ◌<◌, List, [], ◌∷◌, ◌++◌, length, take, set, Ok, Err, Result, sym, refl, ap, ◌∙◌, arith}
+use Rattle.std.proofs.Common.{◌≡◌, ℕ, zero, suc, ◌+◌, ◌-◌, ◌*◌, ◌/◌, ◌<◌, ◌≤◌, List, [], ◌∷◌, ◌++◌, length, get_or, take, drop, set, Ok, Err, Result, sym, refl, ap, ◌∙◌, arith}
 use Rattle.std.specs.List.{between}
-use Rattle.std.proofs.lemmas.List.{append_assoc, append-nil, take_more_set}
+use Rattle.std.proofs.lemmas.List.{append_assoc, append-nil, take_more_set, take-take, drop-drop, length-take, length-drop}
+use Rattle.std.proofs.lemmas.Slice.{between_is}
+use Rattle.std.specs.Simd.{first_chunks}
 use Rattle.refusals.specs.Reading.{Reading, and_then}
 use Rattle.certificate.specs.Table.{read_row, behind, read_rows, seals_end}
 use Rattle.certificate.specs.declared.table.Entry.{Entry}
@@ -85,3 +87,25 @@ pub end_more :
     → seals_end start (take (i + 1) (set t i e)) ≡ p
 end_more start place p i t e l g inv =
     ap (seals_end start) (take_more_set t i e l) ∙ (end_push start (take i t) e ∙ (ap (λ n. n + e.signer.size) inv ∙ sym g))
+
+-- row i, as the eight bytes that it is
+chunk : (k i : ℕ) (xs : List ℕ) → i < k → get_or (first_chunks 8 k xs) i [] ≡ take 8 (drop (8 * i) xs)
+chunk zero i xs h = absurd (omega arith)
+chunk (suc k) zero xs h = refl
+chunk (suc k) (suc i) xs h =
+    let e : 8 + 8 * i ≡ 8 * suc i = omega arith in
+    chunk k i (drop 8 xs) (omega arith) ∙ ap (take 8) (drop-drop (8 * i) 8 xs ∙ ap (λ n. drop n xs) e)
+
+-- rows are the first m of those that stand from 4 on
+pub row_at :
+    (m i : ℕ) (head : List ℕ) (rows : List (List ℕ)) → i < m → 4 + 8 * m ≤ length head
+    → rows ≡ first_chunks 8 (length (take (4 + 8 * m - 4) (drop 4 head)) / 8) (take (4 + 8 * m - 4) (drop 4 head))
+    → get_or rows i [] ≡ between (4 + 8 * i) (4 + 8 * i + 8) head
+row_at m i head rows h l e =
+    let part : List ℕ = take (4 + 8 * m - 4) (drop 4 head) in
+    let n : length part / 8 ≡ m = omega (arith, length-take (4 + 8 * m - 4) (drop 4 head), length-drop 4 head) in
+    let a : drop (8 * i) part ≡ take (4 + 8 * m - 4 - 8 * i) (drop (8 * i) (drop 4 head)) = sym (between_is (drop 4 head) (8 * i) (4 + 8 * m - 4)) in
+    let b : take 8 (take (4 + 8 * m - 4 - 8 * i) (drop (8 * i) (drop 4 head))) ≡ take 8 (drop (8 * i) (drop 4 head)) = take-take 8 (4 + 8 * m - 4 - 8 * i) _ (omega arith) in
+    let w : 4 + 8 * i + 8 - (4 + 8 * i) ≡ 8 = omega arith in
+    ap (λ v. get_or v i []) (e ∙ ap (λ k. first_chunks 8 k part) n)
+    ∙ (chunk m i part h ∙ (ap (take 8) a ∙ (b ∙ (ap (take 8) (drop-drop (8 * i) 4 head) ∙ ap (λ k. take k (drop (4 + 8 * i) head)) (sym w)))))

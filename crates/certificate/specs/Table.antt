@@ -1,9 +1,9 @@
 -- The table of a certificate: an entry of eight bytes for each seal.
 use Rattle.std.specs.Prelude.{ℕ, zero, suc, ◌+◌, ◌*◌, ◌/◌, ◌%◌, ◌<◌, ◌≤◌, cond, not, ◌||◌, List, [], ◌∷◌, ◌++◌, drop, Some, None, Ok, Err, Option, Result, ◌==◌, nat_le, nat_lt, slice_index}
+use Rattle.std.specs.Int.{w32, to_be_bytes, from_be_bytes}
 use Rattle.std.specs.List.{between}
 use Rattle.refusals.specs.Reading.{Reading, found, and_then}
 use Rattle.refusals.specs.declared.Layer.TheVariants as layer
-use Rattle.docket.specs.Layout.{bytes4, from_bytes4}
 use Rattle.certificate.specs.declared.table.Entry.{Entry}
 use Rattle.certificate.specs.declared.table.Signer.{Signer}
 
@@ -14,7 +14,7 @@ malformed place = Err (found layer.Certificate 1 place)
 abbrev pub entry_of : List ℕ → Entry
 entry_of row = record {
   signer = record { number = slice_index row 0; size = slice_index row 2 * 256 + slice_index row 3 };
-  place = from_bytes4 (drop 4 row);
+  place = from_be_bytes w32 (drop 4 row);
 }
 
 -- the offset in an entry of its first wrong field: the box number is at least `least` and below the count of
@@ -64,7 +64,7 @@ placed place (s ∷ ss) = record { signer = s; place = place } ∷ placed (place
 
 -- the bytes of an entry, and of all of them
 abbrev pub row : Signer → ℕ → List ℕ
-row s place = s.number ∷ 0 ∷ (s.size / 256) ∷ (s.size % 256) ∷ bytes4 place
+row s place = s.number ∷ 0 ∷ (s.size / 256) ∷ (s.size % 256) ∷ to_be_bytes w32 place
 
 abbrev pub rows : ℕ → List Signer → List ℕ
 rows place [] = []

@@ -10,6 +10,10 @@ use crate::faults::{CertificateFault, DocketFaultAt};
 use crate::table::{Entry, Signer};
 use crate::value::Certificate;
 use docket::Docket;
+use layout::is_blank;
+
+// A seal has at most so many bytes.
+const LONGEST_SEAL: u16 = 2000;
 
 // Where the head ends, or the bytes, if they are fewer.
 pub(crate) fn head_end(bytes: &[u8]) -> usize
@@ -68,7 +72,7 @@ fn read_count(total: usize, head: &[u8]) -> Result<usize, CertificateFault>
     let count = head[0] as usize;
     if count == 0 || count > 13 {
         Err(CertificateFault::Malformed(0))
-    } else if head[1] != 0 || head[2] != 0 || head[3] != 0 {
+    } else if !is_blank(&head[1..4]) {
         Err(CertificateFault::Malformed(1))
     } else if total < 84 + 8 * count {
         Err(CertificateFault::Malformed(total))
@@ -90,9 +94,10 @@ fn read_table(boxes: u8, count: usize, head: &[u8]) -> Result<([Entry; 13], u32)
     let mut table = [blank; 13];
     let mut least = 0u16;
     let mut place = 84 + 8 * count as u32;
-    for i in 0..count {
-        let at = 4 + 8 * i;
-        let entry = read_row(boxes, at, least, place, &head[at..at + 8])?;
+    let (rows, _) = head[4..4 + 8 * count].as_chunks();
+    // By index, since of entries that are written through `iter_mut` a proof knows only how many there are.
+    for (i, row) in rows.iter().enumerate() {
+        let entry = read_row(boxes, 4 + 8 * i, least, place, row)?;
         least = entry.signer.next_number();
         place = entry.signer.next_place(place);
         table[i] = entry;
@@ -106,9 +111,9 @@ fn read_row(
     at: usize,
     least: u16,
     place: u32,
-    row: &[u8],
+    row: &[u8; 8],
 ) -> Result<Entry, CertificateFault>
-    requires { (length row.now ≡ 8) × (at ≤ 100) }
+    requires { at ≤ 100 }
     ensures { judged certificate_reading result ≡ read_row boxes at least place row.now }
 {
     let entry = entry_of(row);
@@ -118,16 +123,16 @@ fn read_row(
     }
 }
 
-fn entry_of(row: &[u8]) -> Entry
-    requires { length row.now ≡ 8 }
+fn entry_of(row: &[u8; 8]) -> Entry
     ensures { result ≡ entry_of row.now }
 {
+    let [number, _, s0, s1, p0, p1, p2, p3] = *row;
     Entry {
         signer: Signer {
-            number: row[0],
-            size: u16::from_be_bytes([row[2], row[3]]),
+            number,
+            size: u16::from_be_bytes([s0, s1]),
         },
-        place: u32::from_be_bytes([row[4], row[5], row[6], row[7]]),
+        place: u32::from_be_bytes([p0, p1, p2, p3]),
     }
 }
 
@@ -139,7 +144,7 @@ fn wrong_field(boxes: u8, least: u16, place: u32, reserved: u8, entry: Entry) ->
         Some(0)
     } else if reserved != 0 {
         Some(1)
-    } else if entry.signer.size == 0 || entry.signer.size > 2000 {
+    } else if entry.signer.size == 0 || entry.signer.size > LONGEST_SEAL {
         Some(2)
     } else if entry.place != place {
         Some(4)
@@ -148,13 +153,12 @@ fn wrong_field(boxes: u8, least: u16, place: u32, reserved: u8, entry: Entry) ->
     }
 }
 
-// The docket that starts at `at`.
-fn read_docket(head: &[u8], at: usize) -> Result<Docket, CertificateFault>
-    requires { at + 80 ≤ length head.now }
-    ensures { judged certificate_reading result ≡ read_inner at head.now }
+// The docket that starts at `place`.
+fn read_docket(head: &[u8], place: usize) -> Result<Docket, CertificateFault>
+    requires { place + 80 ≤ length head.now }
+    ensures { judged certificate_reading result ≡ read_inner place head.now }
 {
-    match Docket::read(&head[at..at + 80]) {
-        Ok(docket) => Ok(docket),
-        Err(fault) => Err(CertificateFault::from(DocketFaultAt { place: at, fault })),
-    }
+    let bytes = &head[place..place + 80];
+    let docket = Docket::read(bytes).map_err(|fault| DocketFaultAt { place, fault })?;
+    Ok(docket)
 }

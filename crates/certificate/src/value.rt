@@ -8,6 +8,7 @@ use docket::Docket;
 #[derive(Clone, Copy)]
 pub struct Certificate {
     pub(crate) docket: Docket,
+    // Room and a count, since the value is `Copy` and no heap is used: a list of the kit's is not `Copy`.
     pub(crate) count: usize,
     pub(crate) table: [Entry; 13],
     ghost fits: { count ≤ 13 },

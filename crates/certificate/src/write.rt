@@ -9,6 +9,7 @@ ghost use Rattle.certificate.specs.Layout.{head_of, if_room};
 use crate::faults::CertificateFault;
 use crate::table::Signer;
 use docket::Docket;
+use layout::put;
 
 // How many bytes are written, if there is room.
 pub(crate) fn if_room(room: usize, total: usize) -> Result<usize, CertificateFault>
@@ -42,6 +43,7 @@ fn put_rows(head: &mut [u8; 188], signers: &[Signer])
     ensures { take (4 + 8 * length signers.now) head.new ≡ take 4 head.old ++ rows (84 + 8 * length signers.now) signers.now }
 {
     let mut place = 84 + 8 * signers.len() as u32;
+    // By index, since of chunks that are written through a proof knows only how many there are.
     for (i, signer) in signers.iter().enumerate() {
         put(head, 4 + 8 * i, &row_of(*signer, place));
         place = signer.next_place(place);
@@ -52,18 +54,9 @@ fn put_rows(head: &mut [u8; 188], signers: &[Signer])
 fn row_of(signer: Signer, place: u32) -> [u8; 8]
     ensures { result ≡ row signer place }
 {
-    let size = signer.size.to_be_bytes();
-    let place = place.to_be_bytes();
-    [
-        signer.number,
-        0,
-        size[0],
-        size[1],
-        place[0],
-        place[1],
-        place[2],
-        place[3],
-    ]
+    let [s0, s1] = signer.size.to_be_bytes();
+    let [p0, p1, p2, p3] = place.to_be_bytes();
+    [signer.number, 0, s0, s1, p0, p1, p2, p3]
 }
 
 // Copies a head and the seals behind it to the start of the buffer.
@@ -74,14 +67,4 @@ pub(crate) fn put_all(out: &mut [u8], head: &[u8], seals: &[u8])
 {
     put(out, 0, head);
     put(out, head.len(), seals);
-}
-
-// Copies a part to an offset.
-fn put(out: &mut [u8], at: usize, part: &[u8])
-    requires { at + length part.now ≤ length out.old }
-    ensures front { take (at + length part.now) out.new ≡ take at out.old ++ part.now }
-    ensures rest { (n : ℕ) → at + length part.now ≤ n → drop n out.new ≡ drop n out.old }
-{
-    let end = at + part.len();
-    out[at..end].copy_from_slice(part);
 }

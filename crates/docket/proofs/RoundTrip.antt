@@ -1,132 +1,67 @@
 -- What is written reads back equal, and what is read is written as the same bytes. Assumes nothing.
-use Rattle.std.proofs.Common.{◌≡◌, ℕ, ◌+◌, ◌-◌, ◌*◌, ◌/◌, ◌%◌, ◌<◌, ◌≤◌, Bool, true, false, ◌&&◌, eqb, List, [], ◌∷◌, ◌++◌, length, get_or, take, drop, Some, None, Ok, Decides, Option, sym, refl, ap, subst, nat_eq, ◌∙◌, arith, lit<, lit≤}
-use native.Mathlib.Nat.{div-div-eq-div-mul, div-eq_of_lt}
-use Rattle.std.proofs.lemmas.List.{drop_more, drop-drop, drop_all, take-append-drop, append-nil, append_assoc, take_at, drop_at, take_all, length-append}
+use Rattle.std.proofs.Common.{◌≡◌, ℕ, ◌+◌, ◌/◌, ◌<◌, ◌≤◌, Bool, true, false, ◌&&◌, eqb, List, [], ◌∷◌, ◌++◌, length, get_or, take, drop, Some, None, Ok, Decides, Option, sym, refl, ap, subst, nat_eq, ◌∙◌, arith, inl, inr, lit<, lit≤}
+use Rattle.std.specs.Int.{w32, w64, to_be_bytes, from_be_bytes}
+use Rattle.std.specs.Simd.{first_chunks}
+use Rattle.std.specs.Str.{bytes_eq}
+use Rattle.std.proofs.lemmas.Nat.{from_be_bytes-to_be_bytes_4, from_be_bytes-to_be_bytes_8, be_bytes_4, be_bytes_8}
+use Rattle.std.proofs.lemmas.Slice.{between_is}
+use Rattle.std.proofs.lemmas.Slice.Eq.{bytes_eq-Decides}
+use Rattle.std.proofs.lemmas.List.{drop_more, drop-drop, drop_all, take-append-drop, take-take, length-take, get_or-take, get_or-drop, get_or_past, append_assoc, take_at, drop_at, take_all, length-append}
 use Rattle.std.specs.List.{between}
-use Rattle.std.proofs.lemmas.List.Edits.{get_or-between}
-use Rattle.std.proofs.lemmas.Bool.{and_parts, eqb-true, eq-eqb}
-use Rattle.std.proofs.lemmas.Bool.Decides.{nat_tests, Decides-eqb}
+use Rattle.std.proofs.lemmas.List.Edits.{length-between, get_or-between}
+use Rattle.std.proofs.lemmas.Bool.{cases_lt, and_parts, eqb-true, eq-eqb}
+use Rattle.std.proofs.lemmas.Bool.Decides.{nat_tests, Decides-eqb, same_from_decides}
 use Rattle.std.specs.Cmp.Derive.{both_true}
 use Rattle.std.specs.Cmp.Lexicographic.{pointwise_decides}
 use Rattle.refusals.proofs.Steps.{never, ok_if}
 use Rattle.docket.proofs.Answered.{read_by_place}
 use Rattle.docket.specs.declared.Docket.{Docket}
-use Rattle.docket.specs.Layout.{blank, wrong_place, unless_wrong, same_fields, from_bytes4, from_bytes8, bytes4, bytes8, decoded, encoded, Sized, read_docket}
+use Rattle.docket.specs.contracts.DocketPartialEq.TheImpl as derived
+use Rattle.docket.specs.Layout.{blank, wrong_place, unless_wrong, same_fields, decoded, encoded, Sized, read_docket}
 
--- a quotient by a power of 256 is a quotient of the one before by 256
-by256 : (n k m : ℕ) → k * 256 ≡ m → n / m ≡ n / k / 256
-by256 n k m e = ap (λ x. n / x) (sym e) ∙ sym (div-div-eq-div-mul n k 256)
+-- every element of a list of bytes is a byte
+abbrev pub AreBytes : List ℕ → Type 0
+AreBytes bs = (k : ℕ) → get_or bs k 0 < 256
 
-pub value4 : (n : ℕ) → n < 4294967296 → from_bytes4 (bytes4 n) ≡ n
-value4 n h =
-    let p = by256 n 256 65536 refl in
-    let q = by256 n 65536 16777216 refl in
-    let top : n / 16777216 / 256 ≡ 0 = sym (by256 n 16777216 4294967296 refl) ∙ div-eq_of_lt h in
-    omega arith
+pub take_bytes : (n : ℕ) (bs : List ℕ) → AreBytes bs → AreBytes (take n bs)
+take_bytes n bs b k =
+    elim (cases_lt k n) [
+      | inl less ↦ rw (get_or-take n bs k 0 less) (b k)
+      | inr more ↦ let l = length-take n bs in rw (get_or_past (take n bs) k 0 (omega arith)) (lit< tt)
+    ]
 
-value8 : (n : ℕ) → n < 18446744073709551616 → from_bytes8 (bytes8 n) ≡ n
-value8 n h =
-    let p = by256 n 256 65536 refl in
-    let q = by256 n 65536 16777216 refl in
-    let r = by256 n 16777216 4294967296 refl in
-    let s = by256 n 4294967296 1099511627776 refl in
-    let t = by256 n 1099511627776 281474976710656 refl in
-    let u = by256 n 281474976710656 72057594037927936 refl in
-    let top : n / 72057594037927936 / 256 ≡ 0 = sym (by256 n 72057594037927936 18446744073709551616 refl) ∙ div-eq_of_lt h in
-    omega arith
+pub drop_bytes : (n : ℕ) (bs : List ℕ) → AreBytes bs → AreBytes (drop n bs)
+drop_bytes n bs b k = rw (get_or-drop n bs k 0) (b (n + k))
 
-pub digits4 : (a b c d : ℕ) → a < 256 → b < 256 → c < 256 → d < 256 → bytes4 (a * 16777216 + b * 65536 + c * 256 + d) ≡ a ∷ b ∷ c ∷ d ∷ []
-digits4 a b c d a< b< c< d< =
-    let n : ℕ = a * 16777216 + b * 65536 + c * 256 + d in
-    let e0 : n / 16777216 % 256 ≡ a = omega arith in
-    let e1 : n / 65536 % 256 ≡ b = omega arith in
-    let e2 : n / 256 % 256 ≡ c = omega arith in
-    let e3 : n % 256 ≡ d = omega arith in
-    cc
+-- four bytes that are read as a number are written as they were
+pub digits4 : (bs : List ℕ) → AreBytes bs → 4 ≤ length bs → to_be_bytes w32 (from_be_bytes w32 bs) ≡ take 4 bs
+digits4 bs b h =
+    let g : (i : ℕ) → i < 4 → get_or (take 4 bs) i 0 ≡ get_or bs i 0 = λ i l. get_or-take 4 bs i 0 l in
+    be_bytes_4 (take 4 bs) _ (simp length-take (omega arith)) (take_bytes 4 bs b) (simp (g 0 (lit< tt), g 1 (lit< tt), g 2 (lit< tt), g 3 (lit< tt)))
 
-digits8 :
-    (a b c d e f g h : ℕ) → a < 256 → b < 256 → c < 256 → d < 256 → e < 256 → f < 256 → g < 256 → h < 256
-    → bytes8 (from_bytes8 (a ∷ b ∷ c ∷ d ∷ e ∷ f ∷ g ∷ h ∷ [])) ≡ a ∷ b ∷ c ∷ d ∷ e ∷ f ∷ g ∷ h ∷ []
-digits8 a b c d e f g h a< b< c< d< e< f< g< h< =
-    let n : ℕ = from_bytes8 (a ∷ b ∷ c ∷ d ∷ e ∷ f ∷ g ∷ h ∷ []) in
-    let e0 : n / 72057594037927936 % 256 ≡ a = omega arith in
-    let e1 : n / 281474976710656 % 256 ≡ b = omega arith in
-    let e2 : n / 1099511627776 % 256 ≡ c = omega arith in
-    let e3 : n / 4294967296 % 256 ≡ d = omega arith in
-    let e4 : n / 16777216 % 256 ≡ e = omega arith in
-    let e5 : n / 65536 % 256 ≡ f = omega arith in
-    let e6 : n / 256 % 256 ≡ g = omega arith in
-    let e7 : n % 256 ≡ h = omega arith in
-    cc
-
--- a list that has sixteen elements at least, with these written out
-front16 :
-    (bs : List ℕ) → 16 ≤ length bs
-    → bs ≡ get_or bs 0 0 ∷ get_or bs 1 0 ∷ get_or bs 2 0 ∷ get_or bs 3 0 ∷ get_or bs 4 0 ∷ get_or bs 5 0 ∷ get_or bs 6 0 ∷ get_or bs 7 0
-    ∷ get_or bs 8 0 ∷ get_or bs 9 0 ∷ get_or bs 10 0 ∷ get_or bs 11 0 ∷ get_or bs 12 0 ∷ get_or bs 13 0 ∷ get_or bs 14 0 ∷ get_or bs 15 0 ∷ drop 16 bs
-front16 bs h =
-    let more : (i : ℕ) → i < 16 → drop i bs ≡ get_or bs i 0 ∷ drop (i + 1) bs = λ i l. drop_more bs i 0 (omega arith) in
-    cc (
-      more 0 (lit< tt),
-      more 1 (lit< tt),
-      more 2 (lit< tt),
-      more 3 (lit< tt),
-      more 4 (lit< tt),
-      more 5 (lit< tt),
-      more 6 (lit< tt),
-      more 7 (lit< tt),
-      more 8 (lit< tt),
-      more 9 (lit< tt),
-      more 10 (lit< tt),
-      more 11 (lit< tt),
-      more 12 (lit< tt),
-      more 13 (lit< tt),
-      more 14 (lit< tt),
-      more 15 (lit< tt),
-    )
-
--- what lies from i on, as what lies up to j and what lies from j on
-from_to : (xs : List ℕ) (i j : ℕ) → i ≤ j → drop i xs ≡ between i j xs ++ drop j xs
-from_to xs i j h =
-    let e : drop (j - i) (drop i xs) ≡ drop (i + (j - i)) xs = drop-drop (j - i) i xs in
-    let f : i + (j - i) ≡ j = omega arith in
-    let g = take-append-drop (j - i) (drop i xs) in
-    cc
-
-four_lines : (bs : List ℕ) → length bs ≡ 80 → between 16 32 bs ++ between 32 48 bs ++ between 48 64 bs ++ between 64 80 bs ≡ drop 16 bs
-four_lines bs h =
-    let z : drop 80 bs ≡ [] = drop_all 80 bs (omega arith) in
-    let w : between 64 80 bs ++ [] ≡ between 64 80 bs = append-nil (between 64 80 bs) in
-    let a = append_assoc (between 16 32 bs ++ between 32 48 bs) (between 48 64 bs) (between 64 80 bs) in
-    let b = append_assoc (between 16 32 bs) (between 32 48 bs) (between 48 64 bs ++ between 64 80 bs) in
-    cc (from_to bs 16 32 (lit≤ tt), from_to bs 32 48 (lit≤ tt), from_to bs 48 64 (lit≤ tt), from_to bs 64 80 (lit≤ tt))
+-- what lies up to i, and between i and j
+joined : (xs : List ℕ) (i j : ℕ) → i ≤ j → take i xs ++ between i j xs ≡ take j xs
+joined xs i j h = rw (between_is xs i j) (subst (λ front. front ++ drop i (take j xs) ≡ take j xs) (take-take i j xs h) (take-append-drop i (take j xs)))
 
 -- the reserved bytes, where they are blank
-reserved : (bs : List ℕ) → length bs ≡ 80 → blank (between 6 8 bs) ≡ true → (get_or bs 6 0 ≡ 0) × (get_or bs 7 0 ≡ 0)
+reserved : (bs : List ℕ) → length bs ≡ 80 → blank (between 6 8 bs) ≡ true → between 4 8 bs ≡ get_or bs 4 0 ∷ get_or bs 5 0 ∷ 0 ∷ 0 ∷ []
 reserved bs h e =
-    let a : drop 6 bs ≡ get_or bs 6 0 ∷ drop 7 bs = drop_more bs 6 0 (omega arith) in
-    let b : drop 7 bs ≡ get_or bs 7 0 ∷ drop 8 bs = drop_more bs 7 0 (omega arith) in
-    let f : between 6 8 bs ≡ get_or bs 6 0 ∷ get_or bs 7 0 ∷ [] = ap (take 2) a ∙ ap (λ r. get_or bs 6 0 ∷ take 1 r) b in
+    let more : (i : ℕ) → i < 8 → drop i bs ≡ get_or bs i 0 ∷ drop (i + 1) bs = λ i l. drop_more bs i 0 (omega arith) in
+    let f : between 6 8 bs ≡ get_or bs 6 0 ∷ get_or bs 7 0 ∷ [] = cc (more 6 (lit< tt), more 7 (lit< tt)) in
     let g : (eqb (get_or bs 6 0) 0 && (eqb (get_or bs 7 0) 0 && true)) ≡ true = sym (ap blank f) ∙ e in
     let p = and_parts (eqb (get_or bs 6 0) 0) (eqb (get_or bs 7 0) 0 && true) g in
     let q = and_parts (eqb (get_or bs 7 0) 0) true p.1 in
-    (eqb-true _ _ p.0, eqb-true _ _ q.0)
-
-eight : (bs : List ℕ) → from_bytes8 (between 8 16 bs) ≡ from_bytes8 (get_or bs 8 0 ∷ get_or bs 9 0 ∷ get_or bs 10 0 ∷ get_or bs 11 0 ∷ get_or bs 12 0 ∷ get_or bs 13 0 ∷ get_or bs 14 0 ∷ get_or bs 15 0 ∷ [])
-eight bs =
-    let g : (k : ℕ) → 8 + k < 16 → get_or (between 8 16 bs) k 0 ≡ get_or bs (8 + k) 0 = λ k h. get_or-between bs 8 16 k 0 h in
-    simp (g 0 (lit< tt), g 1 (lit< tt), g 2 (lit< tt), g 3 (lit< tt), g 4 (lit< tt), g 5 (lit< tt), g 6 (lit< tt), g 7 (lit< tt))
+    cc (eqb-true _ _ p.0, eqb-true _ _ q.0, more 4 (lit< tt), more 5 (lit< tt), more 6 (lit< tt), more 7 (lit< tt))
 
 -- what is read is written as the same bytes
-pub same_bytes : (bs : List ℕ) → ((i : ℕ) → get_or bs i 0 < 256) → length bs ≡ 80 → blank (between 6 8 bs) ≡ true → encoded (decoded bs) ≡ bs
+pub same_bytes : (bs : List ℕ) → AreBytes bs → length bs ≡ 80 → blank (between 6 8 bs) ≡ true → encoded (decoded bs) ≡ bs
 unfolding encoded decoded
 same_bytes bs b h e =
-    let r = reserved bs h e in
-    let p = digits4 (get_or bs 0 0) (get_or bs 1 0) (get_or bs 2 0) (get_or bs 3 0) (b 0) (b 1) (b 2) (b 3) in
-    let q = ap bytes8 (eight bs) ∙ digits8 _ _ _ _ _ _ _ _ (b 8) (b 9) (b 10) (b 11) (b 12) (b 13) (b 14) (b 15) in
-    let l = four_lines bs h in
-    let f = front16 bs (omega arith) in
-    cc
+    let p = digits4 bs b (omega arith) in
+    let q : to_be_bytes w64 (from_be_bytes w64 (between 8 16 bs)) ≡ between 8 16 bs
+    = be_bytes_8 (between 8 16 bs) _ (length-between bs 8 16 (omega arith)) (take_bytes 8 (drop 8 bs) (drop_bytes 8 bs b)) refl in
+    let all : take 80 bs ≡ bs = take_all 80 bs (omega arith) in
+    cc (p, q, reserved bs h e, joined bs 4 8 (lit≤ tt), joined bs 8 16 (lit≤ tt), joined bs 16 32 (lit≤ tt), joined bs 32 48 (lit≤ tt), joined bs 48 64 (lit≤ tt), joined bs 64 80 (lit≤ tt), all)
 
 quarters :
     (a b c d : List ℕ) → length a ≡ 16 → length b ≡ 16 → length c ≡ 16 → length d ≡ 16
@@ -157,8 +92,8 @@ unfolding encoded decoded
 reads_back d s =
     let q = quarters (get_or d.lines 0 []) (get_or d.lines 1 []) (get_or d.lines 2 []) (get_or d.lines 3 []) s.3 s.4 s.5 s.6 in
     let l = lines_of d.lines s.2 in
-    let p = value4 d.pool s.0 in
-    let n = value8 d.number s.1 in
+    let p = from_be_bytes-to_be_bytes_4 d.pool s.0 in
+    let n = from_be_bytes-to_be_bytes_8 d.number s.1 in
     same_docket p refl refl n (cc)
 
 clear_since : (d : Docket) (clear : Bool) → None ≡ wrong_place d clear → clear ≡ true
@@ -167,7 +102,7 @@ clear_since d false e = grind (arith, nat_tests)
 
 -- a well-formed reading, as its parts
 pub read_same :
-    (bs : List ℕ) (d : Docket) (clear : Bool) → ((i : ℕ) → get_or bs i 0 < 256) → length bs ≡ 80 → d ≡ decoded bs
+    (bs : List ℕ) (d : Docket) (clear : Bool) → AreBytes bs → length bs ≡ 80 → d ≡ decoded bs
     → clear ≡ blank (between 6 8 bs) → None ≡ wrong_place d clear → encoded d ≡ bs
 read_same bs d clear b h e f g =
     ap encoded e ∙ same_bytes bs b h (sym f ∙ clear_since d clear g)
@@ -176,12 +111,35 @@ clear_encoded : (d : Docket) → true ≡ blank (between 6 8 (encoded d))
 unfolding encoded
 clear_encoded d = refl
 
--- front is the start of the buffer after `part` is put there
+eight : (bs : List ℕ) → from_be_bytes w64 (get_or bs 8 0 ∷ get_or bs 9 0 ∷ get_or bs 10 0 ∷ get_or bs 11 0 ∷ get_or bs 12 0 ∷ get_or bs 13 0 ∷ get_or bs 14 0 ∷ get_or bs 15 0 ∷ []) ≡ from_be_bytes w64 (between 8 16 bs)
+eight bs =
+    let g : (k : ℕ) → 8 + k < 16 → get_or (between 8 16 bs) k 0 ≡ get_or bs (8 + k) 0 = λ k h. get_or-between bs 8 16 k 0 h in
+    simp (g 0 (lit< tt), g 1 (lit< tt), g 2 (lit< tt), g 3 (lit< tt), g 4 (lit< tt), g 5 (lit< tt), g 6 (lit< tt), g 7 (lit< tt))
+
+-- what is read from the first row, and the four rows behind it
+pub decoded_by :
+    (bs : List ℕ) (rows : List (List ℕ)) (p n : ℕ) → length bs ≡ 80 → rows ≡ first_chunks 16 (length bs / 16) bs
+    → p ≡ from_be_bytes w32 bs
+    → n ≡ from_be_bytes w64 (get_or bs 8 0 ∷ get_or bs 9 0 ∷ get_or bs 10 0 ∷ get_or bs 11 0 ∷ get_or bs 12 0 ∷ get_or bs 13 0 ∷ get_or bs 14 0 ∷ get_or bs 15 0 ∷ [])
+    → ◌≡◌ {A = Docket} (record {
+      pool = p;
+      account = get_or bs 4 0;
+      count = get_or bs 5 0;
+      number = n;
+      lines = get_or rows 1 [] ∷ get_or rows 2 [] ∷ get_or rows 3 [] ∷ get_or rows 4 [] ∷ [];
+    }) (decoded bs)
+unfolding decoded
+decoded_by bs rows p n h r e f =
+    let five : rows ≡ first_chunks 16 5 bs = r ∙ ap (λ k. first_chunks 16 (k / 16) bs) h in
+    same_docket e refl refl (f ∙ eight bs) (rw five (simp (drop-drop)))
+
+-- what is put at the start of a buffer is read there
 pub reads :
-    (d : Docket) (part front : List ℕ) → Sized d → None ≡ wrong_place d true → part ≡ encoded d → length part ≡ 80
-    → front ≡ encoded d → read_docket front ≡ Ok d
-reads d part front s w e l f =
-    ap read_docket f ∙ sym (read_by_place (encoded d) d true None (ap length (sym e) ∙ l) (sym (reads_back d s)) (clear_encoded d) w)
+    (d : Docket) (part rest : List ℕ) → Sized d → None ≡ wrong_place d true → part ≡ encoded d → length part ≡ 80
+    → read_docket (take 80 (part ++ rest)) ≡ Ok d
+reads d part rest s w e l =
+    ap read_docket (take_at part rest 80 l ∙ e)
+    ∙ sym (read_by_place (encoded d) d true None (ap length (sym e) ∙ l) (sym (reads_back d s)) (clear_encoded d) w)
 
 -- what a reading says
 pub record Read (bs : List ℕ) (d : Docket) : Type 0 where
@@ -201,7 +159,7 @@ read_says bs d h =
     record { long = eqb-true _ _ p.0; is = q.0; fine = q.1 ∙ ap (λ x. wrong_place x (blank (between 6 8 bs))) (sym q.0) }
 
 -- what is read is written as the same bytes
-pub read_encoded : (bs : List ℕ) (d : Docket) → ((i : ℕ) → get_or bs i 0 < 256) → read_docket bs ≡ Ok d → encoded d ≡ bs
+pub read_encoded : (bs : List ℕ) (d : Docket) → AreBytes bs → read_docket bs ≡ Ok d → encoded d ≡ bs
 read_encoded bs d b h = let r = read_says bs d h in read_same bs d _ b r.long r.is refl r.fine
 
 pub length_encoded : (d : Docket) → Sized d → length (encoded d) ≡ 80
@@ -211,11 +169,6 @@ length_encoded d s = simp length-append (omega arith)
 -- what is written is read as it was, if at all
 pub read_written : (d e : Docket) → Sized d → read_docket (encoded d) ≡ Ok e → e ≡ d
 read_written d e s h = (read_says (encoded d) e h).is ∙ reads_back d s
-
--- dockets with the same bytes are equal
-pub same_from_bytes : (x y : Docket) (r : Bool) (a b : List ℕ) → Sized x → Sized y → a ≡ encoded x → b ≡ encoded y → Decides r (a ≡ b) → Decides r (x ≡ y)
-same_from_bytes x y r a b s t e f h =
-    (λ q. sym (reads_back x s) ∙ (ap decoded (sym e ∙ (h.0 q ∙ f)) ∙ reads_back y t), λ q. h.1 (e ∙ (ap encoded q ∙ sym f)))
 
 -- all fields are equal exactly where the dockets are
 fields_tell : (x y : Docket) → same_fields x y ≡ true → x ≡ y
@@ -238,3 +191,13 @@ fields_own x =
 
 pub fields_decide : (x y : Docket) → Decides (same_fields x y) (x ≡ y)
 fields_decide x y = (fields_tell x y, λ e. subst (λ z. same_fields x z ≡ true) e (fields_own x))
+
+-- `==` compares all fields
+pub equal_fields : (x y : Docket) → (derived.ghosts).eq x y ≡ same_fields x y
+equal_fields x y = refl
+
+-- dockets are equal exactly where their bytes are
+pub same_from_bytes : (x y : Docket) → Sized x → Sized y → bytes_eq (encoded x) (encoded y) ≡ same_fields x y
+same_from_bytes x y s t =
+    let told = bytes_eq-Decides (encoded x) (encoded y) in
+    same_from_decides _ _ (λ q. sym (reads_back x s) ∙ (ap decoded (told.0 q) ∙ reads_back y t), λ q. told.1 (ap encoded q)) (fields_decide x y)

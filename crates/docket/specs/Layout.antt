@@ -1,33 +1,13 @@
 -- The docket's 80 bytes: what they say, and when they are well formed.
-use Rattle.std.specs.Prelude.{◌≡◌, ℕ, ◌+◌, ◌*◌, ◌/◌, ◌%◌, ◌<◌, Bool, true, cond, not, ◌&&◌, ◌||◌, List, [], ◌∷◌, ◌++◌, length, take, drop, Some, None, Ok, Err, Option, Result, ◌==◌, nat_eq, nat_le, nat_lt, slice_index, slice_index_or}
+use Rattle.std.specs.Prelude.{◌≡◌, ℕ, ◌+◌, ◌*◌, ◌<◌, Bool, true, cond, not, ◌&&◌, ◌||◌, List, [], ◌∷◌, ◌++◌, length, take, drop, Some, None, Ok, Err, Option, Result, ◌==◌, nat_eq, nat_le, nat_lt, slice_index, slice_index_or}
+use Rattle.std.specs.Int.{w32, w64, to_be_bytes, from_be_bytes}
 use Rattle.std.specs.List.{between}
 use Rattle.std.specs.Ordering.{on, eq_of_both}
 use Rattle.std.specs.Cmp.Lexicographic.{pointwise}
+pub use Rattle.layout.specs.Bytes.{blank}
 use Rattle.refusals.specs.Reading.{Reading, found, and_then, if_ok}
 use Rattle.refusals.specs.declared.Layer.TheVariants as layer
 use Rattle.docket.specs.declared.Docket.{Docket}
-
--- the big-endian integer of the first four and of the first eight bytes
-abbrev pub from_bytes4 : List ℕ → ℕ
-from_bytes4 bs = slice_index bs 0 * 16777216 + slice_index bs 1 * 65536 + slice_index bs 2 * 256 + slice_index bs 3
-
-abbrev pub from_bytes8 : List ℕ → ℕ
-from_bytes8 bs =
-    slice_index bs 0 * 72057594037927936 + slice_index bs 1 * 281474976710656 + slice_index bs 2 * 1099511627776
-    + slice_index bs 3 * 4294967296 + slice_index bs 4 * 16777216 + slice_index bs 5 * 65536 + slice_index bs 6 * 256 + slice_index bs 7
-
-abbrev pub bytes4 : ℕ → List ℕ
-bytes4 n = (n / 16777216 % 256) ∷ (n / 65536 % 256) ∷ (n / 256 % 256) ∷ (n % 256) ∷ []
-
-abbrev pub bytes8 : ℕ → List ℕ
-bytes8 n =
-    (n / 72057594037927936 % 256) ∷ (n / 281474976710656 % 256) ∷ (n / 1099511627776 % 256) ∷ (n / 4294967296 % 256)
-    ∷ (n / 16777216 % 256) ∷ (n / 65536 % 256) ∷ (n / 256 % 256) ∷ (n % 256) ∷ []
-
--- every byte is zero
-abbrev pub blank : List ℕ → Bool
-blank [] = true
-blank (b ∷ bs) = b == 0 && blank bs
 
 -- the offset of the first line past the k-th, counted from line i, that is not blank
 abbrev pub wrong_line : ℕ → ℕ → List (List ℕ) → Option ℕ
@@ -46,10 +26,10 @@ wrong_place d clear =
 -- what 80 bytes say
 unfoldable pub decoded : List ℕ → Docket
 decoded bs = record {
-  pool = from_bytes4 bs;
+  pool = from_be_bytes w32 bs;
   account = slice_index bs 4;
   count = slice_index bs 5;
-  number = from_bytes8 (between 8 16 bs);
+  number = from_be_bytes w64 (between 8 16 bs);
   lines = between 16 32 bs ∷ between 32 48 bs ∷ between 48 64 bs ∷ between 64 80 bs ∷ [];
 }
 
@@ -72,7 +52,7 @@ Sized d =
 -- the layout of a docket, well formed or not
 unfoldable pub encoded : Docket → List ℕ
 encoded d =
-    bytes4 d.pool ++ (d.account ∷ d.count ∷ 0 ∷ 0 ∷ []) ++ bytes8 d.number
+    to_be_bytes w32 d.pool ++ (d.account ∷ d.count ∷ 0 ∷ 0 ∷ []) ++ to_be_bytes w64 d.number
     ++ slice_index_or d.lines 0 [] ++ slice_index_or d.lines 1 [] ++ slice_index_or d.lines 2 [] ++ slice_index_or d.lines 3 []
 
 -- a value, or the fault at the place of what is wrong in it

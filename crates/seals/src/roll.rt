@@ -1,7 +1,6 @@
 // A checker by list: a seal is good when it names its own entry in the roll.
-ghost use Rattle.std.specs.Prelude.{◌≡◌, ◌/◌, length, take};
-ghost use Rattle.seals.specs.Roll.{laid, entries_laid, is_of, good_under, lent, Opens};
-ghost use Rattle.std.specs.Str.{bytes_eq};
+ghost use Rattle.std.specs.Prelude.{◌≡◌};
+ghost use Rattle.seals.specs.Roll.{laid, is_of, good_under, lent, Opens};
 
 use super::{Checker, CheckerFault};
 
@@ -19,7 +18,8 @@ impl<'a> Roll<'a> {
     pub fn open(bytes: &'a [u8]) -> Result<Roll<'a>, CheckerFault>
         ensures { Opens bytes.now result }
     {
-        if bytes.len() % ENTRY == 0 && entries_are_laid(bytes) {
+        let (entries, rest) = bytes.as_chunks();
+        if rest.is_empty() && entries.iter().all(|entry| is_laid(entry)) {
             Ok(Roll { bytes })
         } else {
             Err(CheckerFault::Layout)
@@ -27,42 +27,18 @@ impl<'a> Roll<'a> {
     }
 }
 
-fn entries_are_laid(bytes: &[u8]) -> bool
-    ensures { result ≡ entries_laid (length bytes.now / 84) bytes.now }
-{
-    for entry in bytes.chunks_exact(ENTRY) {
-        if !is_laid(entry) {
-            return false;
-        }
-    }
-    true
-}
-
 // A text is of 82 bytes, or of 80 and two zeros.
-fn is_laid(bytes: &[u8]) -> bool
-    requires { length bytes.now ≡ 84 }
-    ensures { result ≡ laid bytes.now }
+fn is_laid(entry: &[u8; ENTRY]) -> bool
+    ensures { result ≡ laid entry.now }
 {
-    match bytes[1] {
-        82 => true,
-        80 => bytes[82] == 0 && bytes[83] == 0,
-        _ => false,
-    }
+    matches!(entry, [_, 82, ..] | [_, 80, .., 0, 0])
 }
 
 // The entry has this party, this length and this text.
-fn is_of(bytes: &[u8], party: u8, text: &[u8]) -> bool
-    requires { length bytes.now ≡ 84 }
-    ensures { result ≡ is_of bytes.now party text.now }
+fn is_of(entry: &[u8; ENTRY], party: u8, text: &[u8]) -> bool
+    ensures { result ≡ is_of entry.now party text.now }
 {
-    bytes[0] == party && usize::from(bytes[1]) == text.len() && holds(&bytes[2..ENTRY], text)
-}
-
-// `text` stands at the start of `bytes`.
-fn holds(bytes: &[u8], text: &[u8]) -> bool
-    ensures { result ≡ bytes_eq text.now (take (length text.now) bytes.now) }
-{
-    bytes.starts_with(text)
+    entry[0] == party && usize::from(entry[1]) == text.len() && entry[2..].starts_with(text)
 }
 
 impl<'a> Checker for Roll<'a> {
@@ -73,10 +49,10 @@ impl<'a> Checker for Roll<'a> {
             return false;
         };
         let index = usize::from(u16::from_be_bytes([*high, *low]));
-        if index >= self.bytes.len() / ENTRY {
-            return false;
+        let (entries, _) = self.bytes.as_chunks();
+        match entries.get(index) {
+            Some(entry) => is_of(entry, party, text),
+            None => false,
         }
-        let start = index * ENTRY;
-        is_of(&self.bytes[start..start + ENTRY], party, text)
     }
 }

@@ -1,20 +1,17 @@
-use Rattle.std.proofs.Common.{sym, ◌∙◌, arith}
-use Rattle.docket.proofs.Lines.{line_used, line_blank, line_stop, line_all}
+use Rattle.std.proofs.Common.{sym, ap, ◌∙◌, leb, not, ◌&&◌, ◌+◌, ◌*◌, rules, tests}
+use Rattle.std.proofs.lemmas.Iterator.Search.{position_from_yields_List}
+use Rattle.std.proofs.lemmas.Iterator.Adapters.{position_from-zero}
+use Rattle.std.proofs.lemmas.Iterator.Consumers.{YieldsList-from_enumerate}
+use Rattle.std.proofs.lemmas.Iterator.{YieldsList-from_slice}
+use Rattle.std.specs.List.{enumerate_from}
+use Rattle.std.specs.Option.{option_map}
+use Rattle.docket.specs.Layout.{blank}
+use Rattle.docket.proofs.Lines.{mapped, wrong_at}
 use Rattle.docket.proofs.wrong_line.Goals as goal
-use Rattle.docket.proofs.wrong_line.Goals.{else-i-count-via-then-i-count+else-not-is_blank, else-i-count-via-else-i-count}
-
-pub returns-then-not-is_blank : goal.returns-then-not-is_blank
-returns-then-not-is_blank c =
-    line_stop c.args.count c.args.lines.now c.loop-i.i (omega arith) c.loop-i.invariant c.if-i-count.true (sym c.if-not-is_blank.ensures)
-
-pub loop-i-preserved : goal.loop-i-preserved
-loop-i-preserved c =
-    elim c.else-i-count.branch [
-      | else-i-count-via-then-i-count+else-not-is_blank w ↦
-          line_blank c.args.count c.args.lines.now c.loop-i.i (omega arith) c.loop-i.invariant w.if-i-count.true (sym w.is_blank.ensures ∙ w.if-not-is_blank.false)
-      | else-i-count-via-else-i-count w ↦
-          line_used c.args.count c.args.lines.now c.loop-i.i (omega arith) c.loop-i.invariant w.if-i-count.false
-    ]
 
 pub returns : goal.returns
-returns c = line_all c.args.count c.args.lines.now c.loop-i.i (omega arith) c.loop-i.invariant
+returns c =
+    let lines = c.args.lines.now in
+    let first = position_from_yields_List (λ p. leb c.args.count p.0 && not (blank p.1)) _ _ c.position.result c.position.ensures.ran (YieldsList-from_enumerate (YieldsList-from_slice lines cc) cc) (λ x b q k. search (rules, tests)) in
+    mapped (λ i. 16 + 16 * i) _ _ _ c.map.ensures.cases (λ x y k. search rules)
+    ∙ (ap (option_map (λ i. 16 + 16 * i)) (first ∙ position_from-zero _ (enumerate_from 0 lines)) ∙ sym (wrong_at c.args.count 0 lines))
