@@ -1,7 +1,7 @@
 -- What tables of marks hold, and keep. Assumes nothing.
 use Rattle.std.proofs.Common.{◌≡◌, ℕ, zero, suc, ◌+◌, ◌≤◌, Bool, true, false, cond, not, ltb, List, [], ◌∷◌, length, get_or, replicate, set, refl, sym, ap, ◌∙◌, subst, inl, inr, arith, Some, None, Ok, Err}
 use Rattle.std.specs.Prelude.{is_some, IfSome, is_ok, Option, Result, OnOk, nat_lt}
-use Rattle.std.proofs.lemmas.List.{length-set, get_or-replicate, get_or_past, length-replicate}
+use Rattle.std.proofs.lemmas.List.{length-set, get_or-replicate, get_or_past, length-replicate, take_at}
 use Rattle.std.proofs.lemmas.Bool.{and_parts, and_from, eq-eqb, le-ltb, cases_lt, false≢true}
 use Rattle.refusals.specs.Reading.{Reading, found, and_then, judged}
 use Rattle.refusals.specs.declared.Layer.TheVariants as layer
@@ -56,7 +56,9 @@ formed_answer d out r l e = sym (ok_judged docket_reading r) ∙ (ap is_ok e ∙
 
 -- a mark reads back equal
 pub back : (d : Docket) → Sized d → well_formed d ≡ true → read_docket (encoded d) ≡ Ok d
-back d s w = reads d (encoded d) (encoded d) s (sym (formed d w)) refl (length_encoded d s) refl
+back d s w =
+    let l = length_encoded d s in
+    ap read_docket (sym (take_at (encoded d) [] 80 l)) ∙ reads d (encoded d) [] s (sym (formed d w)) refl l
 
 pub some_formed : (ms : List (Option Docket)) (a : ℕ) (m : Option Docket) → Marked ms → m ≡ get_or ms a None → IfSome m (λ d. well_formed d ≡ true)
 some_formed ms a None own e = tt
