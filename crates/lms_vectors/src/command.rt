@@ -17,9 +17,11 @@ pub enum Command<'a> {
     Times(u32),
 }
 
-impl<'a> Command<'a> {
-    // A word that is none of the others asks for a check.
-    pub fn parse(line: &'a str) -> Result<Command<'a>, ParseIntError> {
+// A word that is none of the others asks for a check.
+impl<'a> TryFrom<&'a str> for Command<'a> {
+    type Error = ParseIntError;
+
+    fn try_from(line: &'a str) -> Result<Command<'a>, ParseIntError> {
         let mut words = line.split(' ');
         let word = words.next().unwrap_or("");
         let first = words.next().unwrap_or("");

@@ -39,7 +39,7 @@ fn print_digest(rt: &HostRuntime, digest: [u8; 32]) -> anyhow::Result<()> {
     Ok(())
 }
 
-// Sets the next check's seal to the whole one.
+// Prints whether the seal is good; the next check begins with the whole one.
 fn check(rt: &HostRuntime, desk: &mut Desk) -> anyhow::Result<()> {
     let good = is_good(&desk.keys, desk.text.as_slice(), desk.seal.as_slice());
     println!(rt; "{}", if good { "yes" } else { "no" })?;
@@ -90,7 +90,7 @@ fn run(rt: &HostRuntime) -> anyhow::Result<()> {
         seal: Vec::new(rt.alloc()),
     };
     for line in input.as_str().lines() {
-        obey(rt, &mut desk, Command::parse(line)?)?;
+        obey(rt, &mut desk, Command::try_from(line)?)?;
     }
     Ok(())
 }

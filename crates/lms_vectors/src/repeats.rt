@@ -13,7 +13,7 @@ pub fn ramp() -> [u8; 256]
     array::from_fn(|i| i as u8)
 }
 
-// The digest of the first `n` bytes of a pattern that goes on and on.
+// The digest of the first `n` bytes of a pattern that goes on and on. The loop counts turns, and indexes nothing.
 pub fn repeated_digest(pattern: &[u8; 256], n: usize) -> [u8; 32]
     ensures { result ≡ sha256 (repeated n pattern.now) }
 {

@@ -21,7 +21,7 @@ pub fn is_good(keys: &[u8; KEYS], text: &[u8], seal: &[u8]) -> bool
     }
 }
 
-// How many of `n` checks of one seal find it good.
+// How many of `n` checks of one seal find it good. The loop counts checks, and indexes nothing.
 pub fn count_good(keys: &[u8; KEYS], text: &[u8], seal: &[u8], n: u32) -> u32
     ensures { result ≡ (if good_under keys.now 76 text.now seal.now then n else 0) }
 {

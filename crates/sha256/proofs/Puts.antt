@@ -1,7 +1,7 @@
 -- Bytes written into a block.
-use Rattle.std.proofs.Common.{◌≡◌, ℕ, ◌+◌, ◌-◌, ◌*◌, ◌/◌, ◌%◌, ◌<◌, ◌≤◌, List, [], ◌∷◌, ◌++◌, length, take, drop, set, sym, ap, ◌∙◌, arith}
+use Rattle.std.proofs.Common.{◌≡◌, ℕ, ◌+◌, ◌-◌, ◌*◌, ◌/◌, ◌%◌, ◌≤◌, List, [], ◌++◌, length, take, drop, sym, ap, ◌∙◌, arith}
 use borrow.Rule.Slice.PartMut.{put_mid}
-use Rattle.std.proofs.lemmas.List.{append_assoc, append-nil, drop_all, drop-drop, length-drop, length-set, take_at, take_rest, take_more_set}
+use Rattle.std.proofs.lemmas.List.{append-nil, drop_all, drop-drop, length-drop, take_at, take_rest}
 use Rattle.std.proofs.lemmas.Slice.{take-put_mid}
 
 -- a part written after what is there

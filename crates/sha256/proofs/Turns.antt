@@ -1,11 +1,10 @@
 -- Turns one by one and eight by eight, and one more word.
-use Rattle.std.proofs.Common.{◌≡◌, ℕ, zero, suc, ap, ◌+◌, ◌-◌, ◌*◌, ◌/◌, ◌<◌, ◌≤◌, List, [], ◌∷◌, ◌++◌, length, get_or, take, drop, sym, set, refl, ◌∙◌, add-one, arith}
+use Rattle.std.proofs.Common.{◌≡◌, ℕ, zero, suc, ap, ◌+◌, ◌-◌, ◌*◌, ◌/◌, ◌<◌, ◌≤◌, List, [], ◌∷◌, ◌++◌, length, take, drop, sym, set, refl, ◌∙◌, add-one, arith}
 use Rattle.sha256.specs.Compression.{constants, next_word, extended, turn, turned, turns}
-use Rattle.sha256.specs.Words.{add, σ₀, σ₁}
 use Rattle.std.proofs.lemmas.List.Sums.{fold_more, fold-append}
 use Rattle.std.proofs.lemmas.Slice.Zip.{get_or-zip, length-zip}
 use Rattle.std.specs.List.{fold, zip}
-use Rattle.std.proofs.lemmas.List.{get_or-take, length-take-le, take_all, take_more_set, take-append-drop, length-take, length-drop}
+use Rattle.std.proofs.lemmas.List.{take_all, take_more_set, take-append-drop, length-take, length-drop}
 use Rattle.std.specs.Simd.{first_chunks}
 
 length_constants : length constants ≡ 64
