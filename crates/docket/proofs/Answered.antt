@@ -1,9 +1,9 @@
 -- What the reader and the writer answer, by the place of what is wrong. Assumes nothing.
-use Rattle.std.proofs.Common.{◌≡◌, ◌≢◌, ℕ, ◌+◌, ◌<◌, ◌≤◌, Bool, true, List, [], ◌∷◌, ◌++◌, length, get_or, drop, Some, None, Ok, Err, Option, ◌∙◌, arith}
+use Rattle.std.proofs.Common.{◌≡◌, ◌≢◌, ℕ, ◌<◌, ◌≤◌, Bool, true, List, [], ◌∷◌, ◌++◌, length, get_or, drop, Some, None, Ok, Err, Option, ◌∙◌}
 use Rattle.std.specs.Int.{w32, w64, to_be_bytes}
 use Rattle.std.specs.List.{between, flat_map}
 use Rattle.std.proofs.lemmas.Bool.{eq-eqb, ne_eqb, lt-ltb, le-ltb}
-use Rattle.std.proofs.lemmas.List.{append-nil, append_assoc, length-append}
+use Rattle.std.proofs.lemmas.List.{append-nil, append_assoc}
 use Rattle.refusals.specs.Reading.{Reading, found}
 use Rattle.refusals.specs.declared.Layer.TheVariants as layer
 use Rattle.refusals.specs.declared.Cause.TheVariants as cause
@@ -53,13 +53,3 @@ pub laid_out :
     → out ≡ flat_map (λ row. row) (rows_of d p n) → out ≡ encoded d
 unfolding encoded
 laid_out d p n out e f r = r ∙ simp (e, f, append-nil, append_assoc)
-
--- lines of 16 bytes at least are of 16 each, where the rows have 80 in all
-pub filled :
-    (d : Docket) (p n out : List ℕ) → out ≡ flat_map (λ row. row) (rows_of d p n) → length out ≡ 80
-    → 15 < length (get_or d.lines 0 []) → 15 < length (get_or d.lines 1 []) → 15 < length (get_or d.lines 2 []) → 15 < length (get_or d.lines 3 [])
-    → (length (get_or d.lines 0 []) ≡ 16) × (length (get_or d.lines 1 []) ≡ 16) × (length (get_or d.lines 2 []) ≡ 16) × (length (get_or d.lines 3 []) ≡ 16)
-filled d p n out e l h i j k =
-    let f : length out ≡ 16 + (length (get_or d.lines 0 []) + (length (get_or d.lines 1 []) + (length (get_or d.lines 2 []) + length (get_or d.lines 3 []))))
-    = simp (e, length-append) (omega arith) in
-    (omega arith, omega arith, omega arith, omega arith)

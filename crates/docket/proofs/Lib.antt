@@ -1,3 +1,4 @@
 mod Lines
 mod Answered
 pub mod RoundTrip
+pub mod Sizes

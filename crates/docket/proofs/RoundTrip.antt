@@ -133,13 +133,12 @@ decoded_by bs rows p n h r e f =
     let five : rows ≡ first_chunks 16 5 bs = r ∙ ap (λ k. first_chunks 16 (k / 16) bs) h in
     same_docket e refl refl (f ∙ eight bs) (rw five (simp (drop-drop)))
 
--- what is put at the start of a buffer is read there
+-- what is laid out is read back
 pub reads :
-    (d : Docket) (part rest : List ℕ) → Sized d → None ≡ wrong_place d true → part ≡ encoded d → length part ≡ 80
-    → read_docket (take 80 (part ++ rest)) ≡ Ok d
-reads d part rest s w e l =
-    ap read_docket (take_at part rest 80 l ∙ e)
-    ∙ sym (read_by_place (encoded d) d true None (ap length (sym e) ∙ l) (sym (reads_back d s)) (clear_encoded d) w)
+    (d : Docket) (part front : List ℕ) → Sized d → None ≡ wrong_place d true → part ≡ encoded d → length part ≡ 80
+    → front ≡ encoded d → read_docket front ≡ Ok d
+reads d part front s w e l f =
+    ap read_docket f ∙ sym (read_by_place (encoded d) d true None (ap length (sym e) ∙ l) (sym (reads_back d s)) (clear_encoded d) w)
 
 -- what a reading says
 pub record Read (bs : List ℕ) (d : Docket) : Type 0 where

@@ -80,7 +80,7 @@ fn is_same_mark(mark: &Docket, docket: &Docket) -> Result<bool, BoxFault>
     if mark.number < docket.number {
         return Ok(false);
     }
-    if !is_same(mark, docket) {
+    if !is_same(*mark, *docket) {
         return Err(BoxFault::OtherMarked);
     }
     Ok(true)

@@ -92,16 +92,16 @@ pub(crate) fn admit(account: &Account, docket: Docket) -> Result<Docket, BoxFaul
 fn clash(waiting: &Docket, docket: &Docket) -> BoxFault
     ensures { Err (box_reading result) ≡ occupied docket.now (Some waiting.now) }
 {
-    if is_same(waiting, docket) {
+    if is_same(*waiting, *docket) {
         BoxFault::AlreadyWaiting
     } else {
         BoxFault::OtherWaiting
     }
 }
 
-// Whether two dockets have the same bytes.
-pub fn is_same(a: &Docket, b: &Docket) -> bool
-    ensures { result ≡ bytes_eq (encoded a.now) (encoded b.now) }
+// Whether two dockets are equal, said of their bytes, as the definitions of boxes and marks say it.
+pub fn is_same(a: Docket, b: Docket) -> bool
+    ensures { result ≡ bytes_eq (encoded a) (encoded b) }
 {
-    a.to_bytes() == b.to_bytes()
+    a == b
 }

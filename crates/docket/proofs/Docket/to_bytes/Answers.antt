@@ -1,6 +1,6 @@
-use Rattle.std.proofs.Common.{◌<◌, [], length, get_or, ◌∙◌, rules}
-use borrow.Author.Rules.{Below-row}
-use Rattle.docket.proofs.Answered.{laid_out, filled}
+use Rattle.std.proofs.Common.{◌∙◌, rules}
+use Rattle.docket.proofs.Sizes.{row_long}
+use Rattle.docket.proofs.Answered.{laid_out}
 use Rattle.docket.proofs.Docket.to_bytes.Goals as goal
 
 pub returns-clause-value : goal.returns-clause-value
@@ -10,10 +10,4 @@ returns-clause-value c =
 
 pub returns-clause-sized : goal.returns-clause-sized
 returns-clause-sized c =
-    let lines = c.args.self.now.lines in
-    let a : 15 < length (get_or lines 0 []) = search (rules, Below-row) in
-    let b : 15 < length (get_or lines 1 []) = search (rules, Below-row) in
-    let d : 15 < length (get_or lines 2 []) = search (rules, Below-row) in
-    let e : 15 < length (get_or lines 3 []) = search (rules, Below-row) in
-    let f = filled c.args.self.now c.to_be_bytes.result c.to_be_bytes-2.result _ c.as_flattened.ensures.value c.as_flattened.ensures.len a b d e in
-    (search rules, search rules, search rules, f.0, f.1, f.2, f.3)
+    (search rules, search rules, search rules, search (rules, row_long), search (rules, row_long), search (rules, row_long), search (rules, row_long))

@@ -1,4 +1,5 @@
-use Rattle.std.proofs.Common.{◌≡◌, length, rules}
+use Rattle.std.proofs.Common.{◌≡◌, length, ◌∙◌, rules}
+use Rattle.std.proofs.lemmas.List.{take_at}
 use Rattle.docket.proofs.Answered.{write_wrong, write_short, write_fits, buffer_same, buffer_written}
 use Rattle.docket.proofs.RoundTrip.{reads}
 use Rattle.docket.proofs.Docket.write.Goals as goal
@@ -20,5 +21,5 @@ returns c =
     record {
       answer = a;
       buffer = buffer_written _ _ _ a c.to_bytes.ensures.value;
-      back = reads _ _ _ c.to_bytes.ensures.sized c.in_default.ensures c.to_bytes.ensures.value l;
+      back = reads _ _ _ c.to_bytes.ensures.sized c.in_default.ensures c.to_bytes.ensures.value l (take_at c.to_bytes.result _ 80 l ∙ c.to_bytes.ensures.value);
     }

@@ -1,10 +1,11 @@
-use Rattle.std.proofs.Common.{ap, ◌∙◌}
-use Rattle.std.specs.Str.{bytes_eq}
-use Rattle.std.proofs.lemmas.Slice.Eq.{slice_eq-Decides, bytes_eq-Decides}
-use Rattle.std.proofs.lemmas.Bool.Decides.{same_from_decides, Decides-eqb}
+use Rattle.std.proofs.Common.{◌≡◌, sym, ◌∙◌, rules}
+use Rattle.docket.specs.Layout.{Sized}
+use Rattle.docket.proofs.RoundTrip.{same_from_bytes}
+use Rattle.docket.proofs.Sizes.{row_long}
 use Rattle.settlement.proofs.accept.is_same.Goals as goal
 
 pub returns : goal.returns
 returns c =
-    same_from_decides _ _ (slice_eq-Decides Decides-eqb _ _ _ c.eq.ensures) (bytes_eq-Decides c.to_bytes.result c.to_bytes-2.result)
-    ∙ (ap (λ x. bytes_eq x c.to_bytes-2.result) c.to_bytes.ensures.value ∙ ap (bytes_eq _) c.to_bytes-2.ensures.value)
+    let s : Sized c.args.a = (search rules, search rules, search rules, search (rules, row_long), search (rules, row_long), search (rules, row_long), search (rules, row_long)) in
+    let t : Sized c.args.b = (search rules, search rules, search rules, search (rules, row_long), search (rules, row_long), search (rules, row_long), search (rules, row_long)) in
+    c.eq.ensures ∙ sym (same_from_bytes c.args.a c.args.b s t)
