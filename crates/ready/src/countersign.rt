@@ -20,6 +20,7 @@ impl<B: Book, C: Checker, S: MarkStore> ReadyBox<B, C, S> {
     // A slip for the docket in the bytes, if its yard has sealed it, its account can settle it next, and it is the
     // account's mark: it is written down as such first, if it is not yet and its lines are valid. On any refusal but a
     // failed write the store is as it was.
+    #[tactic(auto, unfolding(pool::specs::Ready::finding))]
     pub fn countersign(&mut self, bytes: &[u8], seal: &[u8]) -> Result<Slip, BoxFault>
         ensures { ActsOn B.Book S.MarkStore self.old self.new (slip_seen result) (finding_of B.Book C.Checker S.MarkStore self.old bytes.now seal.now) }
     {

@@ -1,5 +1,3 @@
 mod Seals
-mod Calls
 mod Fitting
 pub mod Order
-mod Examining

@@ -19,6 +19,7 @@ use settling::Account;
 
 impl<B: Book, C: Checker> ColdBox<B, C> {
     // The docket of a certificate that is well formed, of the pool, with enough entries, and every seal good.
+    #[tactic(auto, unfolding(crate::specs::Accept::accepted))]
     pub(crate) fn accept(&self, bytes: &[u8]) -> Result<Docket, BoxFault>
         ensures { judged box_reading result ≡ accepted (C.Checker.good self.now.checker) self.now.pool self.now.boxes self.now.needed bytes.now }
     {
@@ -44,6 +45,7 @@ impl<B: Book, C: Checker> ColdBox<B, C> {
 }
 
 // The docket, if every entry's box has sealed it; else the offset of the first entry whose seal is not good.
+#[tactic(auto, using(crate::proofs::Seals::number_below))]
 fn check_seals<C: Checker>(
     checker: &C,
     bytes: &[u8],

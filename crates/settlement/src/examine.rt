@@ -15,6 +15,7 @@ use settling::apply_lines;
 
 impl<B: Book, C: Checker> ColdBox<B, C> {
     // The docket in the bytes, if it is of the pool, has its yard's seal and is at its account's next number.
+    #[tactic(auto, unfolding(crate::specs::Examine::examined))]
     pub fn examine(&self, bytes: &[u8], seal: &[u8]) -> Result<Docket, BoxFault>
         ensures { judged box_reading result ≡ examined_of B.Book C.Checker self.now bytes.now seal.now }
     {

@@ -16,6 +16,7 @@ impl<B: Book, C: Checker> ColdBox<B, C> {
     // more. The book starts from its opening. A refusal hands the book and the checker back as they were.
     // For every book, the order in which dockets come makes no difference to what has settled in the end
     // (`settling`), and so the box depends on which dockets it took alone (`order_free`).
+    #[tactic(auto, unfolding(crate::specs::Box::set_up))]
     pub fn set_up(
         pool: u32,
         number: u8,

@@ -36,6 +36,7 @@ impl<B: Book, C: Checker> ColdBox<B, C> {
 
     // Takes a certificate: its docket goes into its cell, and what can settle then settles. The answer is how many
     // dockets did; none that waits can settle afterwards. A refusal changes nothing.
+    #[tactic(auto, unfolding(crate::specs::Box::take_answer, crate::specs::Box::take_box))]
     pub fn take(&mut self, bytes: &[u8]) -> Result<u32, BoxFault>
         ensures answer { judged box_reading result ≡ take_answer_of B.Book C.Checker self.old bytes.now }
         ensures left { ComesTo B.Book self.old self.new (take_box_of B.Book C.Checker self.old bytes.now) }
