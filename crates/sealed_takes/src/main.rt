@@ -12,6 +12,7 @@ use std::io::Read;
 use workbench::bench::opening_balances;
 use workbench::stream::Certificates;
 
+// The length of all parties' keys. `lms` keeps its own to itself: its callers hand it a slice of any length.
 const KEYS: usize = 4312;
 
 fn take_each<B: Book, C: Checker>(
