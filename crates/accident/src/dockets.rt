@@ -77,6 +77,7 @@ pub fn roll(heap: Global, first: &Docket, second: &Docket) -> Result<Vec<u8>, Al
 }
 
 // An entry is of a box and of a text of its.
+// Not the like of it in `seals`: that one is private, since it asks callers for a length.
 fn is_of(entry: &[u8; 84], number: u8, text: &[u8; 82]) -> bool
     ensures { result ≡ is_of entry.now (box_party number) text.now }
 {

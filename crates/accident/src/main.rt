@@ -21,8 +21,8 @@ use ready::Slip;
 use seals::{Checker, Roll};
 use std::alloc::{AllocError, Global};
 
-// The four boxes of the pool. No array: power is cut at each in another way, and after a loop over `iter_mut` a proof
-// knows nothing of the elements.
+// The four boxes of the pool.
+// No array: each is cut in its own way, and after a loop over `iter_mut` a proof knows nothing of the elements.
 #[derive(Drop)]
 struct FourBoxes<C> {
     first: NumberedBox<C>,

@@ -9,7 +9,7 @@ fn run(rt: &HostRuntime) -> anyhow::Result<()> {
     let mut stream = Vec::new(rt.alloc());
     rt.stdin().read_to_end(&mut stream)?;
     let answers = bench_answers(rt.alloc(), stream.as_slice())?;
-    for answer in answers.iter() {
+    for answer in &answers {
         println!(rt; "{answer}")?;
     }
     Ok(())
