@@ -1,5 +1,5 @@
 -- The bench: pool 7, one box of four may be faulty, two pallets, and three dockets that move one each.
-use Rattle.std.specs.Prelude.{ℕ, ◌/◌, ◌%◌, List, [], ◌∷◌, ◌++◌, map, replicate}
+use Rattle.std.specs.Prelude.{ℕ, zero, suc, ◌/◌, ◌%◌, List, [], ◌∷◌, ◌++◌, map, replicate}
 use Rattle.std.specs.List.{flat_map}
 use Rattle.docket.specs.declared.Docket.{Docket}
 use Rattle.docket.specs.Layout.{encoded}
@@ -31,15 +31,21 @@ only_docket from to pallets = record {
 abbrev pub one_pallet : ℕ → ℕ → Docket
 one_pallet from to = only_docket from to 1
 
+-- the docket at a place in their order: P, Q, and R from there on
+abbrev pub at_place : ℕ → BenchDocket
+at_place zero = P
+at_place (suc zero) = Q
+at_place (suc (suc n)) = R
+
 -- P, Q and R
 abbrev pub docket_of : BenchDocket → Docket
 docket_of P = one_pallet 0 1
 docket_of Q = one_pallet 1 0
 docket_of R = one_pallet 2 1
 
--- a roll entry: a box sealed a docket
+-- a roll entry: a box sealed a docket. The party is told in one byte, so that of box 192 and above is not
 abbrev pub roll_entry : ℕ → Docket → List ℕ
-roll_entry box d = box_party box ∷ 82 ∷ countersign_text box (encoded d)
+roll_entry box d = box_party box % 256 ∷ 82 ∷ countersign_text box (encoded d)
 
 -- boxes 0 to 2 for a docket, and for each docket in turn
 abbrev pub entries_of : BenchDocket → List (List ℕ)

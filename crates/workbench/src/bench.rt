@@ -54,6 +54,21 @@ pub enum BenchDocket {
     R,
 }
 
+// By their places: P at 0, Q at 1, and R at any other.
+impl From<usize> for BenchDocket {
+    ghost use Rattle.workbench.specs.Bench.{at_place};
+
+    ghost from_gives = { λ place name. name ≡ at_place place };
+
+    fn from(place: usize) -> BenchDocket {
+        match place {
+            0 => BenchDocket::P,
+            1 => BenchDocket::Q,
+            _ => BenchDocket::R,
+        }
+    }
+}
+
 impl BenchDocket {
     ghost use Rattle.workbench.specs.Bench.{docket_of};
 
@@ -71,7 +86,7 @@ impl BenchDocket {
 
 // The roll's entry that says that a box sealed a docket. A pool's boxes have numbers below 13.
 pub fn roll_entry(number: u8, docket: &Docket) -> [u8; 84]
-    ensures { number < 192 → result ≡ roll_entry number docket.now }
+    ensures { result ≡ roll_entry number docket.now }
 {
     let mut entry = [0u8; 84];
     entry[0] = number.wrapping_add(64);
