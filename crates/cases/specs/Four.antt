@@ -7,7 +7,7 @@ use Rattle.docket.specs.Layout.{encoded}
 use Rattle.certificate.specs.Layout.{head_of}
 use Rattle.book.specs.Pallets.{pallet_valid, pallet_next}
 use Rattle.seals.specs.Texts.{countersign_text}
-use Rattle.settling.proofs.OrderRuns.{none≢some}
+use Rattle.std.proofs.lemmas.Option.{none-some}
 use Rattle.workbench.specs.Bench.{opening_balances, docket_of}
 use Rattle.pool.specs.Ready.{StoreState, SlipState}
 use Rattle.pool.specs.History.{Call, countersign, release, join, take as takes, restart, History, Moment}
@@ -72,7 +72,7 @@ row_of (suc (suc n)) = []
 abbrev pub history_of : ℕ → History
 history_of number = record {
   store = unmarked number (row_of number);
-  own = λ a d e. absurd (none≢some d e);
+  own = λ a d e. absurd (none-some d e);
   back = λ a. tt;
   calls = calls_of number;
 }
