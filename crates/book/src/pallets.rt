@@ -26,7 +26,8 @@ struct Transfer {
     amount: u64,
 }
 
-// The balances at the opening, those kept and the current ones.
+// The balances at the opening, those kept and the current ones. A struct of kept and current that all books share would
+// be no plainer: each book's keep, back and reset would still be a line of its own.
 #[derive(Drop)]
 pub struct PalletBook {
     opening: [u64; 64],
@@ -130,6 +131,7 @@ impl Book for PalletBook {
         kind == TRANSFER
     }
 
+    #[tactic(auto, using(crate::proofs::Transfers::transfer_sum))]
     fn apply(&mut self, account: u8, line: &[u8; 16]) -> bool {
         let Some(order) = transfer_in(line) else {
             return false;

@@ -9,7 +9,7 @@ use Rattle.book.specs.Pallets.{pallet_valid, pallet_next}
 use Rattle.seals.specs.Texts.{countersign_text}
 use Rattle.marks.specs.Outcomes.{End, ends}
 use Rattle.marks.specs.declared.outcome.Outcome.TheVariants.{FailsOld, FailsNew}
-use Rattle.settling.proofs.OrderRuns.{none≢some}
+use Rattle.std.proofs.lemmas.Option.{none-some}
 use Rattle.workbench.specs.Bench.{opening_balances, docket_of}
 use Rattle.workbench.specs.declared.bench.BenchDocket.TheVariants.{P, Q}
 use Rattle.pool.specs.Ready.{StoreState, SlipState}
@@ -75,7 +75,7 @@ row_of (suc (suc n)) = []
 abbrev pub history_of : ℕ → History
 history_of number = record {
   store = unmarked number (row_of number);
-  own = λ a d e. absurd (none≢some d e);
+  own = λ a d e. absurd (none-some d e);
   back = λ a. tt;
   calls = calls_of number;
 }

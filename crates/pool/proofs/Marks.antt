@@ -1,5 +1,6 @@
 -- Marks only ever rise: a mark gives way to one of a greater number alone. Assumes nothing.
 use Rattle.std.proofs.Common.{◌≡◌, ℕ, ◌<◌, Bool, true, false, cond, not, ◌&&◌, eqb, ltb, ◌⊎◌, List, Some, None, Ok, Err, Option, Result, sym, refl, ap, ◌∙◌, subst, inl, inr, ⊎_elim, arith}
+use Rattle.std.proofs.lemmas.Option.{same_Some}
 use Rattle.std.specs.Str.{bytes_eq}
 use Rattle.std.proofs.lemmas.Bool.Decides.{nat_tests}
 use Rattle.std.proofs.lemmas.Bool.{ltb-true, eqb-true}
@@ -11,7 +12,6 @@ use Rattle.docket.specs.declared.Docket.{Docket}
 use Rattle.docket.specs.Layout.{encoded, read_docket}
 use Rattle.marks.specs.Marks.{well_formed, mark_after}
 use Rattle.marks.specs.Outcomes.{End, lands, next_outcome}
-use Rattle.settling.proofs.OrderRuns.{some_same}
 use Rattle.settling.specs.Window.{account_of}
 use Rattle.settlement.specs.Box.{BoxState}
 use Rattle.settling.specs.Settle.{uncovered}
@@ -115,7 +115,7 @@ own_written s d own f a e h = case (mark_then s.mark s.row d a) where
   case : (mark_after s.mark s.row d a ≡ s.mark a) ⊎ ((a ≡ d.account) × (mark_after s.mark s.row d a ≡ Some d)) → (read_docket (encoded e) ≡ Ok e) × (e.account ≡ a)
   case (inl q) = own a e (sym q ∙ h)
   case (inr q) =
-      let same = some_same d e (sym q.1 ∙ h) in
+      let same = same_Some d e (sym q.1 ∙ h) in
       (subst (λ x. read_docket (encoded x) ≡ Ok x) same f.again, ap (λ (x : Docket). x.account) (sym same) ∙ sym q.0)
 
 passed_again : (x m d : Docket) (mark : Option Docket) → mark ≡ Some m → Above mark d → (x ≡ m) ⊎ (x.number < m.number) → x.number < d.number

@@ -1,5 +1,6 @@
 -- What holds at every moment of a box's history. Assumes nothing.
 use Rattle.std.proofs.Common.{◌≡◌, ℕ, ◌<◌, Bool, true, false, cond, not, eqb, ◌⊎◌, List, [], ◌∷◌, ◌++◌, map, Some, None, Ok, Err, Option, Result, sym, refl, ap, ◌∙◌, subst, inl, inr, ⊎_elim, arith}
+use Rattle.std.proofs.lemmas.Option.{same_Some}
 use Rattle.refusals.specs.Reading.{Reading, found}
 use Rattle.refusals.specs.declared.Layer.TheVariants as layer
 use Rattle.refusals.specs.declared.Cause.{Cause}
@@ -8,7 +9,7 @@ use Rattle.docket.specs.declared.Docket.{Docket}
 use Rattle.docket.specs.Layout.{encoded, read_docket}
 use Rattle.seals.specs.Texts.{countersign_text}
 use Rattle.settling.specs.Order.{In, Unique, took}
-use Rattle.settling.proofs.OrderRuns.{Run, run_push, some_same}
+use Rattle.settling.proofs.OrderRuns.{Run, run_push}
 use Rattle.settlement.specs.Box.{BoxState, started_box, restart_box, taken_docket, take_box}
 use Rattle.settlement.proofs.Order.{ledger_of, Level, took_one, box_same, level_one}
 use Rattle.pool.specs.Ready.{StoreState, SlipState, Finding, refuses, marked, not_covered, to_write, finding, box_after, store_after, text_of, released_text}
@@ -48,7 +49,7 @@ module _ (number : ℕ) (s : StoreState) (texts : List (List ℕ)) (h : StoreHol
   same_mark : (d : Docket) → In d h.dockets → d.account ≡ m.account → d.number ≡ m.number → d ≡ m
   same_mark d i ea en =
       let b = h.behind d i in
-      let same = some_same b.mark m (sym b.is ∙ (ap s.mark (ea ∙ own_mark.1) ∙ is)) in
+      let same = same_Some b.mark m (sym b.is ∙ (ap s.mark (ea ∙ own_mark.1) ∙ is)) in
       ⊎_elim (λ e. e ∙ same) (λ less. absurd (let n = ap (λ (x : Docket). x.number) same in omega arith)) b.passed
 
   unique_with : Unique (h.dockets ++ m ∷ [])

@@ -1,16 +1,16 @@
 -- One settling: which docket it is, that one fewer waits then, and that settling all leaves none ready. Assumes nothing.
 use Rattle.std.proofs.Common.{◌≡◌, ℕ, zero, suc, ◌+◌, ◌%◌, ◌<◌, ◌≤◌, Bool, eqb, ◌⊎◌, List, [], ◌∷◌, length, get_or, set, Some, None, Option, sym, refl, ap, ◌∙◌, inl, inr, ⊎_elim, arith}
+use Rattle.std.proofs.lemmas.Option.{none-some, same_Some}
 use Rattle.std.proofs.lemmas.Bool.{eqb-true}
 use Rattle.docket.specs.declared.Docket.{Docket}
 use Rattle.settling.specs.declared.account.Account.{Account}
 use Rattle.settling.specs.Window.{cell, of_number, waiting, advanced, account_of, advanced_in}
 use Rattle.settling.specs.Settle.{Ledger, waiting_in, waiting_count, covered, covered_of, ready, or_else, with_index, lowest_ready, advanced_at, settle_one, then_settle, settle_up_to, settle_all}
-use Rattle.settling.proofs.OrderRuns.{none≢some, some_same}
 use Rattle.settling.proofs.OrderLines.{cond_some}
 
 pub fewer_in : (cs : List (Option Docket)) (i : ℕ) (d : Docket) → get_or cs i None ≡ Some d → waiting_in cs ≡ suc (waiting_in (set cs i None))
-fewer_in [] i d e = absurd (none≢some d e)
-fewer_in (None ∷ cs) zero d e = absurd (none≢some d e)
+fewer_in [] i d e = absurd (none-some d e)
+fewer_in (None ∷ cs) zero d e = absurd (none-some d e)
 fewer_in (Some c ∷ cs) zero d e = refl
 fewer_in (None ∷ cs) (suc i) d e = fewer_in cs i d e
 fewer_in (Some c ∷ cs) (suc i) d e = ap suc (fewer_in cs i d e)
@@ -25,30 +25,30 @@ pub waits_from : (a : Account) (n : ℕ) (d : Docket) → waiting a n ≡ Some d
 waits_from a n d e = from (cell a n) e
   where
     from : (o : Option Docket) → of_number n o ≡ Some d → (o ≡ Some d) × (d.number ≡ n)
-    from None h = absurd (none≢some d h)
+    from None h = absurd (none-some d h)
     from (Some c) h =
         let p = cond_some (eqb c.number n) (Some c) d h in
-        (p.1, ap (λ (x : Docket). x.number) (sym (some_same c d p.1)) ∙ eqb-true c.number n p.0)
+        (p.1, ap (λ (x : Docket). x.number) (sym (same_Some c d p.1)) ∙ eqb-true c.number n p.0)
 
 module _ {State : Type 0} (valid : State → ℕ → List ℕ → Bool) (next : State → ℕ → List ℕ → State) where
   pub ready_from : (s t : State) (a : Account) → ready valid next s a ≡ Some t → (d : Docket) × (waiting a a.next ≡ Some d) × (covered valid next s d ≡ Some t)
   ready_from s t a e = from (waiting a a.next) e
     where
       from : (o : Option Docket) → covered_of valid next s o ≡ Some t → (d : Docket) × (o ≡ Some d) × (covered valid next s d ≡ Some t)
-      from None h = absurd (none≢some t h)
+      from None h = absurd (none-some t h)
       from (Some d) h = (d, refl, h)
 
   either : (i : ℕ) (o : Option State) (rest : Option (ℕ × State)) (x : ℕ × State) → or_else (with_index i o) rest ≡ Some x → ((o ≡ Some x.1) × (x.0 ≡ i)) ⊎ (rest ≡ Some x)
   either i None rest x e = inr e
-  either i (Some u) rest x e = let s = some_same (i, u) x e in inl (ap (λ z. Some z.1) s, sym (ap (λ z. z.0) s))
+  either i (Some u) rest x e = let s = same_Some (i, u) x e in inl (ap (λ z. Some z.1) s, sym (ap (λ z. z.0) s))
 
   neither : (i : ℕ) (o : Option State) (rest : Option (ℕ × State)) → or_else (with_index i o) rest ≡ None → (o ≡ None) × (rest ≡ None)
   neither i None rest e = (refl, e)
-  neither i (Some u) rest e = absurd (none≢some (i, u) (sym e))
+  neither i (Some u) rest e = absurd (none-some (i, u) (sym e))
 
   -- where the lowest ready account is
   pub found : (i : ℕ) (s : State) (rows : List Account) (x : ℕ × State) → lowest_ready valid next i s rows ≡ Some x → (j : ℕ) × (x.0 ≡ i + j) × (j < length rows) × (ready valid next s (account_of rows j) ≡ Some x.1)
-  found i s [] x e = absurd (none≢some x e)
+  found i s [] x e = absurd (none-some x e)
   found i s (r ∷ rows) x e =
       ⊎_elim (λ h. (0, omega arith, omega arith, h.0))
       (λ h. let l = found (i + 1) s rows x h in (suc l.0, omega arith, omega arith, l.3))
@@ -73,12 +73,12 @@ module _ {State : Type 0} (valid : State → ℕ → List ℕ → Bool) (next : 
   one_settles l m e = from (lowest_ready valid next 0 l.state l.accounts) refl e
     where
       from : (o : Option (ℕ × State)) → lowest_ready valid next 0 l.state l.accounts ≡ o → advanced_at l.accounts o ≡ Some m → One l m
-      from None low h = absurd (none≢some m h)
+      from None low h = absurd (none-some m h)
       from (Some x) low h =
           let f = found 0 l.state l.accounts x low in
           let r = ready_from l.state x.1 (account_of l.accounts f.0) f.3 in
           let i : x.0 ≡ f.0 = omega arith in
-          let same = some_same _ m h in
+          let same = same_Some _ m h in
           record {
             at = f.0;
             docket = r.0;
@@ -94,7 +94,7 @@ module _ {State : Type 0} (valid : State → ℕ → List ℕ → Bool) (next : 
     where
       from : (o : Option (ℕ × State)) → lowest_ready valid next 0 l.state l.accounts ≡ o → advanced_at l.accounts o ≡ None → ready valid next l.state (account_of l.accounts a) ≡ None
       from None low h = lowest_none 0 l.state l.accounts a low
-      from (Some x) low h = absurd (none≢some _ (sym h))
+      from (Some x) low h = absurd (none-some _ (sym h))
 
   one_fewer : (l m : Ledger State) → settle_one valid next l ≡ Some m → waiting_count l.accounts ≡ suc (waiting_count m.accounts)
   one_fewer l m e =

@@ -1,5 +1,6 @@
 -- Dockets that can settle: any two can, in either order; so all orders that leave none come to the same. Assumes nothing but the law.
 use Rattle.std.proofs.Common.{◌≡◌, ℕ, ◌+◌, Bool, true, false, cond, eqb, ◌⊎◌, List, Some, None, Option, sym, refl, ap, ◌∙◌, inl, inr, ⊎_elim}
+use Rattle.std.proofs.lemmas.Option.{none-some, same_Some}
 use mathlib.Core.Path.{fun_ext}
 use Rattle.std.specs.Option.{option_map}
 use Rattle.std.proofs.lemmas.Bool.{eqb-true, eq-eqb, ne_eqb, cases_eq, cond-true, cond-false}
@@ -8,7 +9,7 @@ use Rattle.docket.specs.Layout.{used_lines}
 use Rattle.book.specs.Law.{WeaklyIndependent}
 use Rattle.settling.specs.Settle.{covered}
 use Rattle.settling.specs.Order.{In, Within, Unique, Progress, begun, raised, settled, Settles, Exhausted, Maximal, OneEnd}
-use Rattle.settling.proofs.OrderRuns.{none≢some, some_same, run_from, confluent}
+use Rattle.settling.proofs.OrderRuns.{run_from, confluent}
 use Rattle.settling.proofs.OrderLines.{cond_some, Reached, reached_opening, reached_after, either_order}
 
 pub raised_own : (due : ℕ → ℕ) (a : ℕ) → raised due a a ≡ due a + 1
@@ -25,8 +26,8 @@ two_rise false true n = refl
 two_rise false false n = refl
 
 mapped_some : {S T : Type 0} (f : S → T) (o : Option S) (t : T) → option_map f o ≡ Some t → (s : S) × (o ≡ Some s) × (f s ≡ t)
-mapped_some f None t e = absurd (none≢some t e)
-mapped_some f (Some s) t e = (s, refl, some_same (f s) t e)
+mapped_some f None t e = absurd (none-some t e)
+mapped_some f (Some s) t e = (s, refl, same_Some (f s) t e)
 
 module _ {State : Type 0} (valid : State → ℕ → List ℕ → Bool) (next : State → ℕ → List ℕ → State) where
   -- how a docket settles

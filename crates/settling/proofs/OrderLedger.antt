@@ -1,5 +1,6 @@
 -- What holds of a ledger that has taken dockets, and that taking and settling keep it. Assumes nothing.
 use Rattle.std.proofs.Common.{◌≡◌, ℕ, zero, suc, ◌+◌, ◌<◌, ◌≤◌, Bool, true, false, not, eqb, leb, ◌⊎◌, List, [], ◌∷◌, ◌++◌, length, get_or, set, replicate, is_some, Some, None, Option, sym, refl, ap, ◌∙◌, subst, inl, inr, ⊎_elim, arith}
+use Rattle.std.proofs.lemmas.Option.{none-some, same_Some}
 use mathlib.Core.Path.{fun_ext}
 use Rattle.std.specs.Bool.{then_some}
 use Rattle.std.proofs.lemmas.Bool.{cases_eq, and_parts, leb-true, eq-eqb, cond-true, true≢false}
@@ -9,7 +10,7 @@ use Rattle.settling.specs.declared.account.Account.{Account}
 use Rattle.settling.specs.Window.{fresh, cell, of_number, waiting, placed, advanced, account_of, stored, advanced_in}
 use Rattle.settling.specs.Settle.{Ledger, covered_of, settle_one, settle_all}
 use Rattle.settling.specs.Order.{In, Progress, begun, raised, settled, fits, took, took_all, progress_of}
-use Rattle.settling.proofs.OrderRuns.{none≢some, some_same, Run, run_from, run_push}
+use Rattle.settling.proofs.OrderRuns.{Run, run_from, run_push}
 use Rattle.settling.proofs.OrderDockets.{raised_own, raised_other, settling_from, settled_from}
 use Rattle.settling.proofs.OrderCounts.{waits_from, one_settles, none_ready, all_settled}
 use Rattle.settling.proofs.OrderWindow.{And, Window, fresh_window, window_advanced, window_placed, window_other}
@@ -107,7 +108,7 @@ module _ {State : Type 0} (valid : State → ℕ → List ℕ → Bool) (next : 
       let at = ap (λ x. (account_of l.accounts x).next) a in
       let low = f.low in
       let there = w.waits e t a (omega arith) in
-      none≢some e (sym f.free ∙ (ap (cell r) (sym n) ∙ there)) in
+      none-some e (sym f.free ∙ (ap (cell r) (sym n) ∙ there)) in
       let kept : Kept (And Taken d) m = record {
         rows = length-set l.accounts d.account (placed r d) ∙ k.rows;
         unique = λ x y. ⊎_elim
@@ -121,8 +122,8 @@ module _ {State : Type 0} (valid : State → ℕ → List ℕ → Bool) (next : 
       subst (Kept (And Taken d)) same kept
 
   when_true : {T : Type 0} (b : Bool) (x y : T) → then_some b x ≡ Some y → (b ≡ true) × (x ≡ y)
-  when_true true x y e = (refl, some_same x y e)
-  when_true false x y e = absurd (none≢some y e)
+  when_true true x y e = (refl, same_Some x y e)
+  when_true false x y e = absurd (none-some y e)
 
   -- what is left once all have settled that can
   abbrev pub Left : (Docket → Type 0) → Ledger State → Type 0
@@ -201,4 +202,4 @@ module _ {State : Type 0} (valid : State → ℕ → List ℕ → Bool) (next : 
           let n = s.0 in
           let w : waiting r r.next ≡ Some d = subst (λ x. waiting r x ≡ Some d) n (waits_at r d.number d ((k.windows d.account).waits d t refl (omega arith)) refl) in
           let no_more = none_ready valid next l d.account done in
-          absurd (none≢some q.state (sym no_more ∙ (ap (covered_of valid next l.state) w ∙ s.1)))
+          absurd (none-some q.state (sym no_more ∙ (ap (covered_of valid next l.state) w ∙ s.1)))

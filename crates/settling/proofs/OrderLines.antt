@@ -1,14 +1,14 @@
 -- Weak independence, from single lines to all the lines of two accounts. Assumes nothing but the law.
 use Rattle.std.proofs.Common.{◌≡◌, ℕ, Bool, true, false, cond, List, [], ◌∷◌, ◌++◌, Some, None, Option, sym, refl, ap, ◌∙◌, subst}
+use Rattle.std.proofs.lemmas.Option.{none-some, same_Some}
 use Rattle.std.proofs.lemmas.Bool.{and_from}
 use Rattle.book.specs.Law.{Move, after, all_valid, EitherOrder, WeaklyIndependent}
 use Rattle.book.proofs.Moves.{after_append, all_valid_append}
 use Rattle.settling.specs.Settle.{after_lines}
-use Rattle.settling.proofs.OrderRuns.{none≢some, some_same}
 
 pub cond_some : {T : Type 0} (b : Bool) (o : Option T) (t : T) → cond b o None ≡ Some t → (b ≡ true) × (o ≡ Some t)
 cond_some true o t e = (refl, e)
-cond_some false o t e = absurd (none≢some t e)
+cond_some false o t e = absurd (none-some t e)
 
 -- a state that valid moves reach from the opening
 abbrev pub Reached : {State : Type 0} → (State → ℕ → List ℕ → Bool) → (State → ℕ → List ℕ → State) → State → State → Type 0
@@ -21,7 +21,7 @@ Lines valid next a s (l ∷ ls) t = (valid s a l ≡ true) × Lines valid next a
 
 module _ {State : Type 0} (valid : State → ℕ → List ℕ → Bool) (next : State → ℕ → List ℕ → State) where
   lines_from : (a : ℕ) (s t : State) (ls : List (List ℕ)) → after_lines valid next a s ls ≡ Some t → Lines valid next a s ls t
-  lines_from a s t [] e = some_same s t e
+  lines_from a s t [] e = same_Some s t e
   lines_from a s t (l ∷ ls) e =
       let c = cond_some (valid s a l) (after_lines valid next a (next s a l) ls) t e in
       (c.0, lines_from a (next s a l) t ls c.1)

@@ -1,14 +1,8 @@
 -- Steps in turn, where any two that can be made can be made in either order. Assumes nothing.
-use Rattle.std.proofs.Common.{◌≡◌, ◌⊎◌, List, [], ◌∷◌, ◌++◌, is_some, Some, None, Option, unwrap_or, sym, refl, ap, ◌∙◌, subst, inl, inr, ⊎_elim}
-use Rattle.std.proofs.lemmas.Bool.{false≢true}
+use Rattle.std.proofs.Common.{◌≡◌, ◌⊎◌, List, [], ◌∷◌, ◌++◌, Some, None, Option, sym, refl, ap, ◌∙◌, subst, inl, inr, ⊎_elim}
+use Rattle.std.proofs.lemmas.Option.{none-some, same_Some}
 use Rattle.docket.specs.declared.Docket.{Docket}
 use Rattle.settling.specs.Order.{In, Within, if_made, in_turn}
-
-pub none≢some : {T : Type 0} (x : T) → None ≡ Some x → ⊥
-none≢some x e = false≢true (ap is_some e)
-
-pub some_same : {T : Type 0} (x y : T) → Some x ≡ Some y → x ≡ y
-some_same x y e = ap (λ o. unwrap_or o x) e
 
 -- a run: each step with what follows it
 abbrev pub Run : {P : Type 0} → (P → Docket → Option P) → P → List Docket → P → Type 0
@@ -17,11 +11,11 @@ Run {P} step p (d ∷ ds) q = (r : P) × (step p d ≡ Some r) × Run step r ds 
 
 module _ {P : Type 0} (step : P → Docket → Option P) where
   made : (o : Option P) (rest : P → Option P) (q : P) → if_made o rest ≡ Some q → (r : P) × (o ≡ Some r) × (rest r ≡ Some q)
-  made None rest q h = absurd (none≢some q h)
+  made None rest q h = absurd (none-some q h)
   made (Some r) rest q h = (r, refl, h)
 
   pub run_from : (p q : P) (ds : List Docket) → in_turn step p ds ≡ Some q → Run step p ds q
-  run_from p q [] e = some_same p q e
+  run_from p q [] e = same_Some p q e
   run_from p q (d ∷ ds) e =
       let m = made (step p d) (λ r. in_turn step r ds) q e in
       (m.0, m.1, run_from m.0 q ds m.2)
@@ -55,7 +49,7 @@ module _
     front p q r d [] g md mx h run = inr (q, ap (λ x. step x d) (sym run) ∙ h)
     front p q r d (x ∷ xs) g md mx h run =
         let here : d ≡ x → Moved step q d (x ∷ xs) r ⊎ ((t : P) × (step r d ≡ Some t)) = λ e.
-        let same = some_same q run.0 (sym h ∙ (ap (step p) e ∙ run.1)) in
+        let same = same_Some q run.0 (sym h ∙ (ap (step p) e ∙ run.1)) in
         inl (inl e, xs, λ c i. inr i, subst (λ y. Run step y xs r) (sym same) run.2) in
         let there : (t : P) × (step q x ≡ Some t) × (step run.0 d ≡ Some t) → Moved step q d (x ∷ xs) r ⊎ ((t : P) × (step r d ≡ Some t)) = λ b.
         let later = front run.0 b.0 r d xs (keeps p run.0 x g (mx x (inl refl)) run.1) md (λ c i. mx c (inr i)) b.2 run.2 in
@@ -64,7 +58,7 @@ module _
 
     none_left : (p r : P) (xs : List Docket) → AllOf Mine xs → Run step p xs r → Stuck step Mine p → r ≡ p
     none_left p r [] mx run st = sym run
-    none_left p r (x ∷ xs) mx run st = absurd (none≢some run.0 (sym (st x (mx x (inl refl))) ∙ run.1))
+    none_left p r (x ∷ xs) mx run st = absurd (none-some run.0 (sym (st x (mx x (inl refl))) ∙ run.1))
 
     pub confluent :
         (p r s : P) (xs ys : List Docket) → Good p → AllOf Mine xs → AllOf Mine ys → Run step p xs r → Run step p ys s
@@ -75,4 +69,4 @@ module _
         let go : Moved step ry.0 y xs r → Within (y ∷ ys) xs × (Stuck step Mine s → r ≡ s) = λ m.
         let later = confluent ry.0 r s m.1 ys (keeps p ry.0 y g mine ry.1) (λ d i. mx d (m.2 d i)) (λ d i. my d (inr i)) m.3 ry.2 st in
         (λ d. ⊎_elim (λ e. subst (λ c. In c xs) (sym e) m.0) (λ i. m.2 d (later.0 d i)), later.1) in
-        ⊎_elim go (λ t. absurd (none≢some t.0 (sym (st y mine) ∙ t.1))) (front p ry.0 r y xs g mine mx ry.1 rx)
+        ⊎_elim go (λ t. absurd (none-some t.0 (sym (st y mine) ∙ t.1))) (front p ry.0 r y xs g mine mx ry.1 rx)

@@ -1,11 +1,11 @@
 -- An account's cells hold just the dockets of that account that were taken and have not settled. Assumes nothing.
 use Rattle.std.proofs.Common.{◌≡◌, ℕ, zero, suc, ◌+◌, ◌%◌, ◌<◌, ◌≤◌, ◌⊎◌, List, length, get_or, set, Some, None, Option, sym, refl, ap, ◌∙◌, subst, inl, inr, ⊎_elim, arith}
+use Rattle.std.proofs.lemmas.Option.{none-some, same_Some}
 use Rattle.std.proofs.lemmas.Bool.{cases_eq}
 use Rattle.std.proofs.lemmas.List.{length-set, get_or-set_same, get_or-set_other, get_or_default, same_lists}
 use Rattle.docket.specs.declared.Docket.{Docket}
 use Rattle.settling.specs.declared.account.Account.{Account}
 use Rattle.settling.specs.Window.{fresh, cell, waiting, placed, advanced}
-use Rattle.settling.proofs.OrderRuns.{none≢some, some_same}
 use Rattle.settling.proofs.OrderCounts.{waits_from}
 
 -- one more docket
@@ -27,7 +27,7 @@ pub fresh_window : (Taken : Docket → Type 0) (a : ℕ) → ((d : Docket) → T
 fresh_window Taken a no-docket = record {
   four = refl;
   waits = λ d t. absurd (no-docket d t);
-  held = λ n d e. absurd (none≢some d (sym (empty (n % 4)) ∙ e));
+  held = λ n d e. absurd (none-some d (sym (empty (n % 4)) ∙ e));
 }
   where
     empty : (i : ℕ) → get_or fresh.cells i None ≡ None
@@ -47,14 +47,14 @@ window_advanced Taken a r d w due = record { four = length-set r.cells (r.next %
     waits' e t s low =
         let old = w.waits e t s (omega arith) in
         let apart : r.next % 4 ≡ e.number % 4 → ⊥ = λ z.
-        let same = ap (λ (x : Docket). x.number) (some_same d e (sym first.0 ∙ (ap (λ i. get_or r.cells i None) z ∙ old))) in
+        let same = ap (λ (x : Docket). x.number) (same_Some d e (sym first.0 ∙ (ap (λ i. get_or r.cells i None) z ∙ old))) in
         let n = first.1 in
         omega arith in
         cell_set_other r.cells r.next e.number None apart ∙ old
 
     held' : (n : ℕ) (e : Docket) → cell (advanced r) n ≡ Some e → Taken e × (e.account ≡ a) × (e.number % 4 ≡ n % 4) × (r.next + 1 ≤ e.number)
     held' n e h =
-        ⊎_elim (λ z. absurd (none≢some e (sym (cell_set_same r.cells r.next n None w.four z) ∙ h)))
+        ⊎_elim (λ z. absurd (none-some e (sym (cell_set_same r.cells r.next n None w.four z) ∙ h)))
         (λ z.
         let old = w.held n e (sym (cell_set_other r.cells r.next n None z) ∙ h) in
         let more : r.next ≡ e.number → ⊥ = λ y. z (ap (λ x. x % 4) y ∙ old.2) in
@@ -70,7 +70,7 @@ window_placed Taken a r d w at low free = record { four = length-set r.cells (d.
     waits' : (e : Docket) → And Taken d e → e.account ≡ a → r.next ≤ e.number → cell (placed r d) e.number ≡ Some e
     waits' e (inl t) s h =
         let old = w.waits e t s h in
-        let apart : d.number % 4 ≡ e.number % 4 → ⊥ = λ z. none≢some e (sym free ∙ (ap (λ i. get_or r.cells i None) z ∙ old)) in
+        let apart : d.number % 4 ≡ e.number % 4 → ⊥ = λ z. none-some e (sym free ∙ (ap (λ i. get_or r.cells i None) z ∙ old)) in
         cell_set_other r.cells d.number e.number (Some d) apart ∙ old
     waits' e (inr same) s h = cell_set_same r.cells d.number e.number (Some d) w.four (ap (λ (x : Docket). x.number % 4) (sym same)) ∙ ap Some (sym same)
 
@@ -78,7 +78,7 @@ window_placed Taken a r d w at low free = record { four = length-set r.cells (d.
     held' n e h =
         ⊎_elim
         (λ z.
-        let same = some_same d e (sym (cell_set_same r.cells d.number n (Some d) w.four z) ∙ h) in
+        let same = same_Some d e (sym (cell_set_same r.cells d.number n (Some d) w.four z) ∙ h) in
         (inr (sym same), ap (λ (x : Docket). x.account) (sym same) ∙ at, ap (λ (x : Docket). x.number % 4) (sym same) ∙ z, subst (λ (x : Docket). r.next ≤ x.number) same low))
         (λ z.
         let old = w.held n e (sym (cell_set_other r.cells d.number n (Some d) z) ∙ h) in

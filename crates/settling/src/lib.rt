@@ -86,6 +86,7 @@ impl Accounts {
         if docket.number > 1 << 40 {
             return false;
         }
+        // by its index: of what get_mut lends, a proof knows nothing but that it is there
         let account = self.get(docket.account).with(docket);
         let at = docket.account as usize;
         if at < 64 {
