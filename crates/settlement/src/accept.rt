@@ -1,5 +1,5 @@
 // Which certificates a box accepts, and which dockets it then admits.
-ghost use Rattle.std.specs.Prelude.{◌≡◌, ◌<◌, Some, Err};
+ghost use Rattle.std.specs.Prelude.{◌≡◌, ◌<◌, Some, Err, Decides};
 ghost use Rattle.refusals.specs.Reading.{judged};
 ghost use Rattle.std.specs.Str.{bytes_eq};
 ghost use Rattle.docket.specs.Layout.{encoded};
@@ -104,7 +104,8 @@ fn clash(waiting: &Docket, docket: &Docket) -> BoxFault
 
 // Whether two dockets are equal, said of their bytes, as the definitions of boxes and marks say it.
 pub fn is_same(a: Docket, b: Docket) -> bool
-    ensures { result ≡ bytes_eq (encoded a) (encoded b) }
+    ensures bytes { result ≡ bytes_eq (encoded a) (encoded b) }
+    ensures same { Decides result (a ≡ b) }
 {
     a == b
 }
