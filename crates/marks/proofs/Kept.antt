@@ -56,9 +56,7 @@ formed_answer d out r l e = sym (ok_judged docket_reading r) ∙ (ap is_ok e ∙
 
 -- a mark reads back equal
 pub back : (d : Docket) → Sized d → well_formed d ≡ true → read_docket (encoded d) ≡ Ok d
-back d s w =
-    let l = length_encoded d s in
-    ap read_docket (sym (take_at (encoded d) [] 80 l)) ∙ reads d (encoded d) [] s (sym (formed d w)) refl l
+back d s w = reads d (encoded d) (encoded d) s (sym (formed d w)) refl (length_encoded d s) refl
 
 pub some_formed : (ms : List (Option Docket)) (a : ℕ) (m : Option Docket) → Marked ms → m ≡ get_or ms a None → IfSome m (λ d. well_formed d ≡ true)
 some_formed ms a None own e = tt

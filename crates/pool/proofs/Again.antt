@@ -1,7 +1,6 @@
 -- What was read once reads again from its own layout, so that no two dockets have one layout. Assumes nothing.
-use Rattle.std.proofs.Common.{◌≡◌, ℕ, ◌<◌, Bool, true, false, List, [], length, None, Ok, Result, sym, refl, ap, ◌∙◌, subst, arith}
+use Rattle.std.proofs.Common.{◌≡◌, ℕ, ◌<◌, Bool, true, false, List, length, None, Ok, Result, sym, refl, ap, ◌∙◌, subst, arith}
 use Rattle.refusals.specs.Reading.{Reading}
-use Rattle.std.proofs.lemmas.List.{take_at}
 use Rattle.std.proofs.lemmas.List.Edits.{length-between}
 use Rattle.std.proofs.lemmas.Bool.Decides.{nat_tests}
 use Rattle.docket.specs.declared.Docket.{Docket}
@@ -30,8 +29,7 @@ pub read_again : (bs : List ℕ) (d : Docket) → read_docket bs ≡ Ok d → d.
 read_again bs d h p =
     let r = read_says bs d h in
     let s = read_sized bs d h p in
-    let l = length_encoded d s in
-    ap read_docket (sym (take_at (encoded d) [] 80 l)) ∙ reads d (encoded d) [] s (clear_true d _ r.fine) refl l
+    reads d (encoded d) (encoded d) s (clear_true d _ r.fine) refl (length_encoded d s) refl
 
 pub ok_same : (d e : Docket) → ◌≡◌ {A = Result Docket Reading} (Ok d) (Ok e) → d ≡ e
 ok_same d e h = cc
