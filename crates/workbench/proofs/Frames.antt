@@ -1,17 +1,13 @@
 -- The loop over a stream's certificates. Assumes nothing.
-use Rattle.std.proofs.Common.{◌≡◌, ℕ, zero, suc, ◌+◌, ◌-◌, ◌≤◌, Bool, true, false, cond, ltb, List, [], ◌∷◌, length, take, drop, IfOk, Some, None, Ok, Err, vec_items, Option, Result, Vec, sym, refl, ap, ◌∙◌, arith}
+use Rattle.std.proofs.Common.{◌≡◌, ℕ, zero, suc, ◌+◌, ◌-◌, ◌≤◌, Bool, true, false, cond, ltb, List, [], ◌∷◌, length, take, drop, Some, None, Ok, Err, Option, Result, sym, refl, ap, ◌∙◌, arith}
 use Rattle.std.specs.List.{between}
 use Rattle.std.proofs.lemmas.List.{length-drop, drop-drop}
 use Rattle.std.proofs.lemmas.Slice.{between_to_end}
 use Rattle.std.proofs.lemmas.Bool.{ltb-false}
-use Rattle.std.proofs.lemmas.Result.{IfOk-weaker}
-use Rattle.std.specs.declared.alloc.AllocError.{AllocError}
-use Rattle.std.specs.declared.alloc.Global.{Global}
 use Rattle.refusals.specs.Reading.{Reading}
 use Rattle.settlement.specs.Box.{BoxState, set_up}
 use Rattle.workbench.specs.Bench.{started}
-use Rattle.workbench.specs.declared.answer.Answer.{Answer}
-use Rattle.workbench.specs.Stream.{first_size, frame_size, then_frames, frames_up_to, certificates_in, answers_to}
+use Rattle.workbench.specs.Stream.{first_size, frame_size, then_frames, frames_up_to, certificates_in}
 
 some_since : (a b : Bool) (n m : ℕ) → cond a None (cond b None (Some n)) ≡ Some m → (b ≡ false) × (n ≡ m)
 some_since true b n m e = let z : ◌≡◌ {A = ℕ} 0 1 = cc in absurd (omega arith)
@@ -82,12 +78,3 @@ set_up_started {State} o b e = ap (ok_or b) e
     ok_or : BoxState State → Result (BoxState State) Reading → BoxState State
     ok_or d (Ok x) = x
     ok_or d (Err r) = d
-
--- the same answers by other names of the checker's judgement and of the box
-pub answers_same :
-    {State C : Type 0} (valid : State → ℕ → List ℕ → Bool) (next : State → ℕ → List ℕ → State) (good : C → ℕ → List ℕ → List ℕ → Bool)
-    (x y : C) (b c : BoxState State) (cs : List (List ℕ)) (r : Result (Vec Answer Global) AllocError) → x ≡ y → b ≡ c
-    → IfOk r (λ v. vec_items v ≡ answers_to valid next (good x) b cs) → IfOk r (λ v. vec_items v ≡ answers_to valid next (good y) c cs)
-answers_same valid next good x y b c cs r p q h =
-    IfOk-weaker r (λ v. vec_items v ≡ answers_to valid next (good x) b cs) (λ v. vec_items v ≡ answers_to valid next (good y) c cs)
-    (λ v e. e ∙ (ap (λ z. answers_to valid next (good z) b cs) p ∙ ap (λ z. answers_to valid next (good y) z cs) q)) h

@@ -1,18 +1,12 @@
 -- The bench's roll is well laid. Assumes nothing.
-use Rattle.std.proofs.Common.{◌≡◌, ℕ, ◌^◌, Bool, true, false, cond, leb, List, IfOk, Ok, Err, vec_items, sum, Result, Vec, refl, ap, arith}
+use Rattle.std.proofs.Common.{◌≡◌, ℕ, ◌^◌, Bool, true, false, cond, leb, List, Ok, Err, sum, Result, refl, ap, arith}
 use Rattle.docket.specs.Layout.{encoded}
 use Rattle.seals.specs.Roll.{entries_laid, well_laid}
-use Rattle.std.specs.declared.alloc.AllocError.{AllocError}
-use Rattle.std.specs.declared.alloc.Global.{Global}
 use Rattle.refusals.specs.Reading.{Reading, found}
 use Rattle.refusals.specs.declared.Layer.TheVariants.{Book}
 use Rattle.refusals.specs.declared.Cause.TheVariants as cause
-use Rattle.book.specs.Pallets.{States, set_up, pallet_valid, pallet_next}
-use Rattle.seals.specs.Roll.{good_under}
-use Rattle.workbench.specs.declared.answer.Answer.{Answer}
-use Rattle.workbench.specs.Stream.{answers_to, certificates_in}
-use Rattle.workbench.specs.Bench.{opening_balances, bench_roll, started, bench_answers}
-use Rattle.workbench.proofs.Frames.{answers_same}
+use Rattle.book.specs.Pallets.{States, set_up}
+use Rattle.workbench.specs.Bench.{bench_roll}
 
 pub bench_laid : well_laid bench_roll ≡ true
 unfolding bench_roll entries_laid encoded
@@ -29,10 +23,3 @@ opened_by false s t e h = let z : ◌≡◌ {A = ℕ} 0 1 = cc in absurd (omega 
 
 pub opened : (balances : List ℕ) (s : States) → Ok s ≡ set_up balances → s.opening ≡ balances
 opened balances s h = opened_by (leb (sum balances) (2 ^ 40)) s (record { opening = balances; kept = balances; current = balances }) (found Book cause.Overfull 0) h
-
-pub bench_same :
-    (roll opening stream : List ℕ) (r : Result (Vec Answer Global) AllocError) → roll ≡ bench_roll → opening ≡ opening_balances
-    → IfOk r (λ v. vec_items v ≡ answers_to pallet_valid pallet_next (good_under roll) (started opening) (certificates_in stream))
-    → IfOk r (λ v. vec_items v ≡ bench_answers stream)
-unfolding bench_answers
-bench_same roll opening stream r e f h = answers_same pallet_valid pallet_next good_under roll bench_roll (started opening) (started opening_balances) (certificates_in stream) r e (ap started f) h

@@ -123,6 +123,7 @@ pub fn roll() -> [u8; 756]
 }
 
 // What box 0 of the bench's pool answers to a stream. Where memory is wanting there is no answer at all.
+#[tactic(auto, using(crate::proofs::Rolls::bench_laid, crate::proofs::Rolls::opened), unfolding(crate::specs::Bench::bench_answers))]
 pub fn bench_answers(heap: Global, stream: &[u8]) -> Result<Vec<Answer>, AllocError>
     ensures { IfOk result (λ v. v.items ≡ bench_answers stream.now) }
 {

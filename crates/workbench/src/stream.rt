@@ -46,6 +46,7 @@ impl<'a> Iterator for Certificates<'a> {
 
     ghost remaining = { item_count (λ s. certificates_in s.rest.now) };
 
+    #[tactic(auto, using(crate::proofs::Frames::frames_none))]
     fn next(&mut self) -> Option<&'a [u8]> {
         let size = frame_size(self.rest)?;
         let (certificate, rest) = self.rest[2..].split_at(size);
@@ -82,6 +83,7 @@ fn answer_each<B: Book, C: Checker>(
 
 // Sets box 0 of the bench's pool up and hands it a stream. Where memory is wanting there is no answer at all, and the
 // box is gone with the book and the checker that were given.
+#[tactic(auto, using(crate::proofs::Frames::never_refused, crate::proofs::Frames::set_up_started))]
 pub fn answers<B: Book + Drop, C: Checker + Drop>(
     heap: Global,
     book: B,
