@@ -53,7 +53,7 @@ fn of_yard(docket: &Docket) -> [u8; 84]
     entry
 }
 
-// Adds the entries of boxes 0 to 3 over a docket.
+// Adds the entries of boxes 0 to 3 over a docket. The loop's number is what is written; it indexes nothing.
 fn add_boxes(bytes: &mut Vec<u8>, docket: &Docket) -> Result<(), AllocError>
     ensures { OnOk result (bytes.new.items ≡ bytes.old.items ++ box_entries 4 docket.now) }
 {
@@ -77,7 +77,8 @@ pub fn roll(heap: Global, first: &Docket, second: &Docket) -> Result<Vec<u8>, Al
 }
 
 // An entry is of a box and of a text of its.
-// Not the like of it in `seals`: that one is private, since it asks callers for a length.
+// Of a box's number and not of a party, as a roll has it: a number that is no box's may give no party at all, and to
+// tell that apart first would be no plainer.
 fn is_of(entry: &[u8; 84], number: u8, text: &[u8; 82]) -> bool
     ensures { result ≡ is_of entry.now (box_party number) text.now }
 {

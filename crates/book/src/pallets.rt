@@ -42,11 +42,7 @@ pub struct PalletBook {
 fn sum_of(balances: &[u64; 64]) -> u128
     ensures { result ≡ sum balances.now }
 {
-    let mut total: u128 = 0;
-    for balance in balances {
-        total += u128::from(*balance);
-    }
-    total
+    balances.iter().map(|balance| u128::from(*balance)).sum()
 }
 
 // Takes a line apart; none where its form is not that of a transfer. An Option is enough, as no caller learns why.

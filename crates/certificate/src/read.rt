@@ -123,6 +123,7 @@ fn read_row(
     }
 }
 
+// What a row says, which nobody has judged yet; a `From` would offer that to every caller of the crate.
 fn entry_of(row: &[u8; 8]) -> Entry
     ensures { result ≡ entry_of row.now }
 {

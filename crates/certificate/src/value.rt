@@ -8,7 +8,8 @@ use docket::Docket;
 #[derive(Clone, Copy)]
 pub struct Certificate {
     pub(crate) docket: Docket,
-    // Room and a count, since the value is `Copy` and no heap is used: a list of the kit's is not `Copy`.
+    // Room and a count: `entries` lends the part that is used, no heap is used, and the value is `Copy`, which a list of
+    // the kit's is not.
     pub(crate) count: usize,
     pub(crate) table: [Entry; 13],
     ghost fits: { count ≤ 13 },

@@ -119,7 +119,7 @@ fn wrong_line(count: u8, lines: &[[u8; 16]; 4]) -> Option<usize>
         .map(|i| 16 + 16 * i)
 }
 
-// The fields of the layout, whether they are well formed or not.
+// The fields of the layout, whether they are well formed or not; a `From` would offer them to every caller.
 fn decode(bytes: &[u8; 80]) -> Docket
     ensures { result ≡ decoded bytes.now }
 {

@@ -8,7 +8,7 @@ use seals::{Checker, CheckerFault};
 // The bytes of a key.
 const KEY: usize = 56;
 
-/// The bytes of the keys of parties 0 to 76.
+// The bytes of the keys of parties 0 to 76.
 pub const KEYS: usize = 4312;
 
 // The keys' bytes are lent, and no fact is kept of what they hold.

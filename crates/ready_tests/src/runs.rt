@@ -23,7 +23,8 @@ fn cold_box(number: u8, faulty: u8) -> Result<ColdBox<PalletBook, Trusting>, Fai
     }
 }
 
-// What a box answers to a docket: none where it makes a slip, which is withheld, else the refusal and its place.
+// What a box answers to a docket: none where it makes a slip, which is withheld, else the refusal's number, as users are
+// told it, and its place.
 fn answer_to<S: MarkStore>(
     ready: &mut ReadyBox<PalletBook, Trusting, S>,
     docket: &Docket,
@@ -134,7 +135,7 @@ fn certify(rt: &impl Abort, docket: &Docket, out: &mut [u8; 165]) -> Result<(), 
 }
 
 // One of four dockets of which each passes on the pallet that the one before brings: from account 0 to 8, from 8 to 9
-// and so on.
+// and so on. The index is a place in that chain.
 fn link(index: u8) -> Docket {
     match index {
         0 => one_pallet(0, 8),
