@@ -42,7 +42,7 @@ pub fn opening() -> PalletBook
     book
 }
 
-// A roll entry of a yard.
+// A roll entry of a yard. Its party, length and text all differ from those of a box's, so nothing is left to share.
 fn of_yard(docket: &Docket) -> [u8; 84]
     ensures { result ≡ yard_entry docket.now }
 {
@@ -76,9 +76,7 @@ pub fn roll(heap: Global, first: &Docket, second: &Docket) -> Result<Vec<u8>, Al
     Ok(bytes)
 }
 
-// An entry is of a box and of a text of its.
-// Of a box's number and not of a party, as a roll has it: a number that is no box's may give no party at all, and to
-// tell that apart first would be no plainer.
+// An entry is of this box and of this text. Not `seals`' own, in which a party is a byte: 64 and a number may pass it.
 fn is_of(entry: &[u8; 84], number: u8, text: &[u8; 82]) -> bool
     ensures { result ≡ is_of entry.now (box_party number) text.now }
 {

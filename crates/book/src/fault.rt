@@ -4,6 +4,7 @@ ghost use Rattle.book.specs.Fault.{book_reading};
 use refusals::{Cause, Fault, Layer, Refusal};
 use thiserror::Error;
 
+// A type of its own: one for all layers would take the layer and the cause as parameters, and be no shorter.
 #[derive(Clone, Copy, PartialEq, Eq, Debug, Error)]
 #[error("{}", self.refusal())]
 pub enum BookFault {

@@ -20,7 +20,7 @@ fn with(count: u8, number: u64) -> Docket {
     }
 }
 
-// The docket's certificate by the first boxes, two or three, whose roll entries start at `first`.
+// The docket's certificate by the first boxes, two or three (a count would want a bound), whose roll entries start at `first`.
 fn certify(
     docket: &Docket,
     three: bool,
@@ -87,9 +87,8 @@ fn play<B: Book<Question = u8, Answer = Option<u64>> + Drop, C: Checker + Drop>(
     checker: C,
     order: [Option<BenchDocket>; 3],
 ) -> Result<Outcome, Fail> {
-    let mut cold = match ColdBox::set_up(7, 0, 1, book, checker) {
-        Ok(cold) => cold,
-        Err(_) => return Err(Fail::new("set up")),
+    let Ok(mut cold) = ColdBox::set_up(7, 0, 1, book, checker) else {
+        return Err(Fail::new("set up"));
     };
     let mut answers = [None; 3];
     for (slot, name) in answers.iter_mut().zip(order) {
@@ -130,15 +129,14 @@ fn orders(rt: HostRuntime) -> Result<(), Fail> {
     Ok(())
 }
 
-// A box of the bench's pool that finds every seal good.
+// A box of the bench's pool that finds every seal good. Each crate of tests sets up its own: shared, it would be a public
+// call of the workbench.
 fn trusting_box() -> Result<ColdBox<PalletBook, Trusting>, Fail> {
-    match ColdBox::set_up(7, 0, 1, PalletBook::new(opening_balances())?, Trusting) {
-        Ok(cold) => Ok(cold),
-        Err(_) => Err(Fail::new("set up")),
-    }
+    let book = PalletBook::new(opening_balances())?;
+    ColdBox::set_up(7, 0, 1, book, Trusting).map_err(|_| Fail::new("set up"))
 }
 
-// The answer of a box that refuses under this number.
+// The answer of a box that refuses under this number, as users are told it.
 fn refused(number: u8) -> Result<Answer, Fail> {
     Ok(Answer::Refused(Cause::try_from(number)?))
 }
@@ -190,7 +188,7 @@ fn printed(rt: HostRuntime) -> Result<(), Fail> {
     Ok(())
 }
 
-// A line that votes on a topic.
+// A line that votes on a topic. The books' tests have their own, as they stand on the books alone.
 fn vote(topic: u8, choice: u8) -> [u8; 16] {
     [2, topic, choice, 0, 0, 0, 0, 0, 0, 0, 0, 0, 0, 0, 0, 0]
 }
@@ -198,9 +196,8 @@ fn vote(topic: u8, choice: u8) -> [u8; 16] {
 // The same box over the shipped book: pallets and votes in one docket, and a vote twice that is never covered.
 #[test]
 fn shipped(rt: HostRuntime) -> Result<(), Fail> {
-    let mut cold = match ColdBox::set_up(7, 0, 1, ship(opening_balances(), 5)?, Trusting) {
-        Ok(cold) => cold,
-        Err(_) => return Err(Fail::new("set up")),
+    let Ok(mut cold) = ColdBox::set_up(7, 0, 1, ship(opening_balances(), 5)?, Trusting) else {
+        return Err(Fail::new("set up"));
     };
     let mut four = one_pallet(0, 1);
     four.count = 4;

@@ -27,6 +27,7 @@ pub enum CertificateFault {
     Docket(DocketFaultAt),
 }
 
+// By hand: what `#[from]` writes has no clause, and each `?` needs one.
 impl From<DocketFaultAt> for CertificateFault {
     ghost from_gives = { λ e r. r ≡ Docket e };
 

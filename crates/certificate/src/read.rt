@@ -137,7 +137,8 @@ fn entry_of(row: &[u8; 8]) -> Entry
     }
 }
 
-// The offset of an entry's first wrong field.
+// The offset of an entry's first wrong field. An Option, since its caller says which fault it is, and where the entry
+// starts.
 fn wrong_field(boxes: u8, least: u16, place: u32, reserved: u8, entry: Entry) -> Option<usize>
     ensures answer { result ≡ wrong_field boxes least place reserved entry }
 {

@@ -8,8 +8,8 @@ use docket::Docket;
 #[derive(Clone, Copy)]
 pub struct Certificate {
     pub(crate) docket: Docket,
-    // Room and a count: `entries` lends the part that is used, no heap is used, and the value is `Copy`, which a list of
-    // the kit's is not.
+    // Room and a count: `entries` lends the entries as one slice, which cells that may be empty could not, and the value is
+    // `Copy`, which a list of the kit's is not.
     pub(crate) count: usize,
     pub(crate) table: [Entry; 13],
     ghost fits: { count ≤ 13 },

@@ -50,7 +50,7 @@ fn put_rows(head: &mut [u8; 188], signers: &[Signer])
     }
 }
 
-// The entry of a signer whose seal starts at `place`.
+// The entry of a signer whose seal starts at `place`. A function, since a signer alone does not give it.
 fn row_of(signer: Signer, place: u32) -> [u8; 8]
     ensures { result ≡ row signer place }
 {

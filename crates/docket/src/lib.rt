@@ -11,7 +11,8 @@ pub mod faults;
 pub use faults::DocketFault;
 use layout::is_blank;
 
-// Accounts go from 0 to this one, and dockets' numbers from 1 to this one.
+// Accounts go from 0 to this one, and dockets' numbers from 1 to this one. The books have a constant of their own for
+// accounts, since neither crate stands on the other.
 const LAST_ACCOUNT: u8 = 63;
 
 const LAST_NUMBER: u64 = 1 << 40;
@@ -89,7 +90,8 @@ impl Docket {
         &self.lines[0..end]
     }
 
-    // The offset of the first wrong field or line. `clear` says that the reserved bytes are zero.
+    // The offset of the first wrong field or line. `clear` says that the reserved bytes are zero. An Option, since which
+    // fault it is, its caller says.
     fn wrong_place(&self, clear: bool) -> Option<usize>
         ensures { result ≡ wrong_place self.now clear }
     {

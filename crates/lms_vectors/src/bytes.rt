@@ -23,9 +23,9 @@ fn byte_of(pair: &[u8; 2]) -> u8
     value_of(high) * 16 + value_of(low)
 }
 
-pub fn from_hex(heap: Global, text: &str) -> Result<Vec<u8>, AllocError>
+pub fn from_hex(heap: Global, text: &[u8]) -> Result<Vec<u8>, AllocError>
     ensures { IfOk result (λ v. v.items ≡ unhex (length text.now / 2) text.now) }
 {
-    let (pairs, _) = text.as_bytes().as_chunks::<2>();
+    let (pairs, _) = text.as_chunks::<2>();
     pairs.iter().map(byte_of).collect(heap)
 }

@@ -51,23 +51,33 @@ fn obey(rt: &HostRuntime, desk: &mut Desk, command: Command<'_>) -> anyhow::Resu
     let heap = rt.alloc();
     match command {
         Command::Nothing => {}
-        Command::Hash(text) => print_digest(rt, digest(from_hex(heap, text)?.as_slice()))?,
+        Command::Hash(text) => print_digest(
+            rt,
+            digest(from_hex(heap, text.as_bytes())?.as_slice()),
+        )?,
         Command::Ramp(n) => print_digest(rt, repeated_digest(&ramp(), n))?,
         Command::Fill(byte, n) => {
-            let value = from_hex(heap, byte)?.first().copied().unwrap_or(0);
+            let value = from_hex(heap, byte.as_bytes())?
+                .first()
+                .copied()
+                .unwrap_or(0);
             print_digest(rt, repeated_digest(&[value; 256], n))?;
         }
-        Command::Key(key) => put(&mut desk.keys, KEY_START, from_hex(heap, key)?.as_slice()),
-        Command::Text(text) => desk.text = from_hex(heap, text)?,
+        Command::Key(key) => put(
+            &mut desk.keys,
+            KEY_START,
+            from_hex(heap, key.as_bytes())?.as_slice(),
+        ),
+        Command::Text(text) => desk.text = from_hex(heap, text.as_bytes())?,
         Command::Seal(seal) => {
-            desk.whole = from_hex(heap, seal)?;
+            desk.whole = from_hex(heap, seal.as_bytes())?;
             desk.seal = desk.whole.clone()?;
         }
         Command::Put(at, part) => {
             put(
                 desk.seal.as_mut_slice(),
                 at,
-                from_hex(heap, part)?.as_slice(),
+                from_hex(heap, part.as_bytes())?.as_slice(),
             );
         }
         Command::Cut(n) => desk.seal.truncate(n),

@@ -78,6 +78,7 @@ fn outcomes_of_writes(rt: HostRuntime) -> Result<(), Fail> {
 #[test]
 fn the_longest_row(rt: HostRuntime) -> Result<(), Fail> {
     let mut store = TableStore::new(0, &[Outcome::FailsOld; 64])?;
+    // here and below a loop's numbers are those of dockets and accounts, or turns; none indexes anything
     for _ in 0..64 {
         write(&rt, &mut store, &[(1, 1, false)]);
     }

@@ -12,7 +12,8 @@ use settlement::ColdBox;
 
 impl<B: Book, C: Checker, S: MarkStore> ReadyBox<B, C, S> {
     // A cold box and a store of marks make a ready box. Neither is changed.
-    // Every pool of boxes with such a book agrees, if its seals hold (`pool`).
+    // Every pool of boxes with such a book agrees, if its seals hold (`pool`). This is said of validity and next state
+    // alone, by name: no more of the book counts.
     pub fn join(cold: ColdBox<B, C>, store: S) -> ReadyBox<B, C, S>
         ensures cold { result.cold ≡ cold }
         ensures store { result.store ≡ store }

@@ -17,10 +17,7 @@ use workbench::bench::{one_pallet, only_docket, opening_balances};
 // A cold box of the bench's pool.
 fn cold_box(number: u8, faulty: u8) -> Result<ColdBox<PalletBook, Trusting>, Fail> {
     let book = PalletBook::new(opening_balances())?;
-    match ColdBox::set_up(7, number, faulty, book, Trusting) {
-        Ok(cold) => Ok(cold),
-        Err(_) => Err(Fail::new("set up")),
-    }
+    ColdBox::set_up(7, number, faulty, book, Trusting).map_err(|_| Fail::new("set up"))
 }
 
 // What a box answers to a docket: none where it makes a slip, which is withheld, else the refusal's number, as users are

@@ -44,8 +44,8 @@ impl<B: Book, C: Checker> ColdBox<B, C> {
     }
 }
 
-// The docket, if every entry's box has sealed it; else the offset of the first entry whose seal is not good. A loop over
-// the entries with their index is a rule of the project.
+// The docket, if every entry's box has sealed it; else the offset of the first entry whose seal is not good. A loop, since a
+// closure would have to be told of each entry that its number is a box's.
 #[tactic(auto, using(crate::proofs::Seals::number_below))]
 fn check_seals<C: Checker>(
     checker: &C,

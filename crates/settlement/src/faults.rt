@@ -50,6 +50,7 @@ pub enum BoxFault {
     OutOfRange,
 }
 
+// By hand, as the one below: what `#[from]` writes has no clause, and each `?` needs one.
 impl From<CertificateFault> for BoxFault {
     ghost from_gives = { λ e r. r ≡ Certificate e };
 

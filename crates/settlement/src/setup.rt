@@ -15,7 +15,8 @@ impl<B: Book, C: Checker> ColdBox<B, C> {
     // A box of a pool in which `faulty` boxes may be faulty, 1 to 4, so that there are three times as many and one
     // more. The book starts from its opening. A refusal hands the book and the checker back as they were.
     // For every book, the order in which dockets come makes no difference to what has settled in the end
-    // (`settling`), and so the box depends on which dockets it took alone (`order_free`).
+    // (`settling`), and so the box depends on which dockets it took alone (`order_free`). Both are said of validity and
+    // next state alone, by name: no more of the book counts.
     #[tactic(auto, unfolding(crate::specs::Box::set_up))]
     pub fn set_up(
         pool: u32,
@@ -55,5 +56,5 @@ fn in_range(number: u8, faulty: u8) -> bool
     ensures answer { result ≡ in_range number faulty }
     ensures small { result ≡ true → faulty ≤ 4 }
 {
-    faulty >= 1 && faulty <= 4 && number < 3 * faulty + 1
+    (1..=4).contains(&faulty) && number < 3 * faulty + 1
 }

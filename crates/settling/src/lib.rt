@@ -107,8 +107,8 @@ impl Accounts {
 }
 
 // Makes a docket's lines in the book, one after another, until one is not valid: its index. There is none where the
-// docket is covered. What the book keeps stays. A loop with an index and no `position`, whose closure would change the
-// book.
+// docket is covered. What the book keeps stays. A loop, since of what a `position` leaves whose closure changes the
+// book, a proof knows only that its calls ran.
 #[tactic(auto, unfolding(crate::specs::Settle::uncovered))]
 pub fn apply_lines<B: Book>(book: &mut B, docket: &Docket) -> Option<usize>
     ensures answer { result ≡ uncovered_in B.Book book.old docket.now }
@@ -156,7 +156,7 @@ fn attempt_due<B: Book>(book: &mut B, account: &Account) -> bool
 }
 
 // Settles the docket at the next number of the lowest account where one waits and is covered, in the book alone. A loop
-// with an index, since each turn may change the book.
+// for the same reason.
 fn attempt_lowest<B: Book>(book: &mut B, rows: &[Account; 64]) -> Option<u8>
     requires { Level B.Book book.old }
     ensures answer { result ≡ option_map (λ x. x.0) (lowest_in B.Book book.old rows.now) }
@@ -180,6 +180,7 @@ pub fn settle<B: Book>(book: &mut B, accounts: &mut Accounts) -> u32
 {
     book.keep();
     let mut count = 0;
+    // each turn changes what the next one looks at, so there is nothing to go over
     'settling: while let Some(account) = attempt_lowest(book, &accounts.rows) {
         accounts.advance(account);
         count += 1;

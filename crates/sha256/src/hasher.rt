@@ -19,7 +19,8 @@ const INITIAL: [u32; 8] = [
 // The bytes of a block.
 const BLOCK: usize = 64;
 
-// The words so far, the bytes that wait for their block to be full, and the count of all bytes given, modulo 2^64.
+// The words so far, the bytes that wait for their block to be full, and the count of all bytes given, modulo 2^64. Room
+// and a count, since no heap is used.
 #[derive(Clone, Copy)]
 pub struct Hasher {
     state: [u32; 8],

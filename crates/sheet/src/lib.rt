@@ -72,7 +72,8 @@ fn end_of(count: usize) -> usize
     HEAD + RECORD * count
 }
 
-// The first `count` records. Bytes and count go together here and where records are written: `Parts` only lends them.
+// The first `count` records. Bytes and count go together here and in the three calls that write
+// records: `Parts` lends what is read, and these write it.
 fn records(bytes: &[u8], count: usize) -> &[[u8; RECORD]]
     requires { end_of count ≤ length bytes.now }
     ensures value { result.now ≡ records 0 count bytes.now }

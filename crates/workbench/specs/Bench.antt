@@ -31,11 +31,11 @@ only_docket from to pallets = record {
 abbrev pub one_pallet : ℕ → ℕ → Docket
 one_pallet from to = only_docket from to 1
 
--- the docket at a place in their order: P, Q, and R from there on
-abbrev pub at_place : ℕ → BenchDocket
-at_place zero = P
-at_place (suc zero) = Q
-at_place (suc (suc n)) = R
+-- the dockets by their order: P, Q, and R from there on
+abbrev pub in_order : ℕ → BenchDocket
+in_order zero = P
+in_order (suc zero) = Q
+in_order (suc (suc n)) = R
 
 -- P, Q and R
 abbrev pub docket_of : BenchDocket → Docket

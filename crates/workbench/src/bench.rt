@@ -54,14 +54,14 @@ pub enum BenchDocket {
     R,
 }
 
-// By their places: P at 0, Q at 1, and R at any other.
+// By their order: P is 0, Q is 1, and R any other.
 impl From<usize> for BenchDocket {
-    ghost use Rattle.workbench.specs.Bench.{at_place};
+    ghost use Rattle.workbench.specs.Bench.{in_order};
 
-    ghost from_gives = { λ place name. name ≡ at_place place };
+    ghost from_gives = { λ index name. name ≡ in_order index };
 
-    fn from(place: usize) -> BenchDocket {
-        match place {
+    fn from(index: usize) -> BenchDocket {
+        match index {
             0 => BenchDocket::P,
             1 => BenchDocket::Q,
             _ => BenchDocket::R,

@@ -82,7 +82,8 @@ fn answer_each<B: Book, C: Checker>(
 }
 
 // Sets box 0 of the bench's pool up and hands it a stream. Where memory is wanting there is no answer at all, and the
-// box is gone with the book and the checker that were given.
+// box is gone with the book and the checker that were given. Its box stands in no variable before, so the clause names
+// what the book and the checker show one by one.
 #[tactic(auto, using(crate::proofs::Frames::never_refused, crate::proofs::Frames::set_up_started))]
 pub fn answers<B: Book + Drop, C: Checker + Drop>(
     heap: Global,

@@ -9,5 +9,5 @@ returns c =
     let byte = λ (pair : List ℕ). value_of (get_or pair 0 0) * 16 + value_of (get_or pair 1 0) in
     let read : IfOk c.collect.result (λ v. vec_items v ≡ map byte c.as_chunks.result.0.now) =
     items_from_collect _ c.collect.ensures.ran (YieldsList-from_map _ byte (YieldsList-from_slice c.as_chunks.result.0.now (cc)) c.map.ensures.closure (λ x r q k. search rules)) in
-    let whole = ap (map byte) c.as_chunks.ensures.front ∙ unhex_pairs _ c.as_bytes.result.now in
-    rw (whole, c.as_bytes.ensures.value) at read
+    let whole = ap (map byte) c.as_chunks.ensures.front ∙ unhex_pairs _ c.args.text.now in
+    rw whole at read
