@@ -73,13 +73,13 @@ impl<C: Checker> NumberedBox<C> {
         let Ok(store) = TableStore::new(number, row) else {
             return Err(anyhow!("the row was refused"));
         };
-        match ColdBox::set_up(7, number, 1, book, checker) {
-            Ok(cold) => Ok(NumberedBox {
-                number,
-                ready: ReadyBox::join(cold, store),
-            }),
-            Err(_) => Err(anyhow!("the box was refused")),
-        }
+        let Ok(cold) = ColdBox::set_up(7, number, 1, book, checker) else {
+            return Err(anyhow!("the box was refused"));
+        };
+        Ok(NumberedBox {
+            number,
+            ready: ReadyBox::join(cold, store),
+        })
     }
 
     // Power is cut and comes back: the box restarts, and joins its store again.

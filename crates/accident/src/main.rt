@@ -171,10 +171,10 @@ fn certify(heap: Global, votes: &Votes, out: &mut [u8; 256]) -> anyhow::Result<u
 {
     let signers = signers_in(heap, votes)?;
     let seals = seals_in(heap, votes)?;
-    match Certificate::write(4, &votes.offer.docket, &signers, &seals, out) {
-        Ok(length) => Ok(length),
-        Err(_) => Err(anyhow!("the certificate was refused")),
-    }
+    let Ok(length) = Certificate::write(4, &votes.offer.docket, &signers, &seals, out) else {
+        return Err(anyhow!("the certificate was refused"));
+    };
+    Ok(length)
 }
 
 // The report that all are, if they are the same.

@@ -4,8 +4,8 @@ use Rattle.accident.specs.Story.{stand_of}
 use Rattle.accident.proofs.Stands.{set_up_started, set_up_refused, stands_started}
 use Rattle.accident.proofs.boxes.NumberedBox.set_up.Goals as goal
 
-pub returns-in-Ok-set_up-clause-at : goal.returns-in-Ok-set_up-clause-at
-returns-in-Ok-set_up-clause-at g c =
+pub returns-clause-at : goal.returns-clause-at
+returns-clause-at g c =
     let s = set_up_started c.args.number _ _ c.in-Ok-set_up.ensures.answer in
     let t = c.in-Ok.ensures in
     record {
@@ -17,12 +17,12 @@ returns-in-Ok-set_up-clause-at g c =
       judge = ap (λ b. b.checker) c.join.ensures.cold ∙ c.in-Ok-set_up.ensures.checker;
     }
 
-pub returns-in-Ok-set_up-clause-made : goal.returns-in-Ok-set_up-clause-made
-returns-in-Ok-set_up-clause-made g c =
+pub returns-clause-made : goal.returns-clause-made
+returns-clause-made g c =
     let s = set_up_started c.args.number _ _ c.in-Ok-set_up.ensures.answer in
     sym (ap (λ b. b && ltb c.args.number 4) (le-leb (length c.args.row.now) 64 c.in-Ok.ensures.0) ∙ s.0)
 
-pub returns-clause-made : goal.returns-clause-made
-returns-clause-made g c =
-    let s = set_up_refused c.args.number _ _ c.in-Err.ensures.answer in
+pub returns-in_default-set_up-clause-made : goal.returns-in_default-set_up-clause-made
+returns-in_default-set_up-clause-made g c =
+    let s = set_up_refused c.args.number _ _ c.in_default-set_up.ensures.answer in
     sym (ap (λ b. b && ltb c.args.number 4) (le-leb (length c.args.row.now) 64 c.in-Ok.ensures.0) ∙ s)
