@@ -134,7 +134,8 @@ fn hand_out<C: Checker>(
     Ok(())
 }
 
-// The boxes whose seals were gathered, in their order, and those seals end to end.
+// The boxes whose seals were gathered, in their order, and those seals end to end. Loops, since each step may want memory
+// and fail.
 fn signers_in(heap: Global, votes: &Votes) -> Result<Vec<Signer>, AllocError>
     ensures { IfOk result (λ v. v.items ≡ signers_in 4 votes.now.seals) }
 {
@@ -162,7 +163,7 @@ fn seals_in(heap: Global, votes: &Votes) -> Result<Vec<u8>, AllocError>
     Ok(seals)
 }
 
-// Writes the certificate that the votes make, and answers how long it is.
+// Writes the certificate that the votes make, and answers how long it is, as the writer does that it calls.
 fn certify(heap: Global, votes: &Votes, out: &mut [u8; 256]) -> anyhow::Result<usize>
     ensures answer { IfOk result (λ n. Ok n ≡ certified_answer votes.now out.old) }
     ensures buffer { OnOk result (out.new ≡ certified_buffer votes.now out.old) }

@@ -3,7 +3,7 @@ ghost use Rattle.std.specs.Prelude.{◌≡◌};
 ghost use Rattle.lms.specs.Chains.{step, chained, checksum, digits_of, chain_ends};
 ghost use Rattle.lms.specs.Hashes.{one_time_key};
 
-use super::hashes::{D_PBLC, Place};
+use super::hashes::{D_PBLC, Node};
 use layout::put;
 use sha256::{Hasher, digest};
 
@@ -44,7 +44,7 @@ pub fn digits_of(hash: &[u8; 32]) -> [u8; 34]
 }
 
 // From the 34 values that stand end to end in a seal.
-pub fn one_time_key(leaf: &Place<'_>, digits: &[u8; 34], values: &[u8; 1088]) -> [u8; 32]
+pub fn one_time_key(leaf: &Node<'_>, digits: &[u8; 34], values: &[u8; 1088]) -> [u8; 32]
     ensures { result ≡ one_time_key leaf.now.id.now leaf.now.number (chain_ends leaf.now.id.now leaf.now.number digits.now values.now 34) }
 {
     let mut hasher = Hasher::new();

@@ -18,13 +18,13 @@ pub const D_INTR: u16 = 0x8383;
 
 // A leaf or a node under a key: the key's identifier and its own number.
 #[derive(Clone, Copy)]
-pub struct Place<'a> {
+pub struct Node<'a> {
     pub id: &'a [u8; 16],
     pub number: u32,
 }
 
-impl<'a> Place<'a> {
-    // The bytes that every input at this place begins with.
+impl<'a> Node<'a> {
+    // The bytes that every input at this node begins with.
     pub fn front(&self, mark: u16) -> [u8; 22]
         ensures { result ≡ head self.now.id.now self.now.number mark }
     {

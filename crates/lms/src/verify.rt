@@ -4,7 +4,7 @@ ghost use Rattle.lms.specs.Hashes.{message_hash, leaf};
 ghost use Rattle.lms.specs.Verify.{is_key, is_seal, IsKeyOf, IsSealOf, candidate_key, candidate, verifies};
 
 use super::chains::{digits_of, one_time_key};
-use super::hashes::{D_LEAF, D_MESG, Place, hash};
+use super::hashes::{D_LEAF, D_MESG, Node, hash};
 use super::tree::climb;
 
 // SHA-256 at height 10, and at W8.
@@ -81,7 +81,7 @@ impl<'a> Seal<'a> {
     fn candidate_key(&self, id: &[u8; 16], text: &[u8]) -> [u8; 32]
         ensures { (bytes : List ℕ) → IsSealOf bytes self.now → result ≡ candidate_key id.now text.now bytes }
     {
-        let leaf = Place {
+        let leaf = Node {
             id,
             number: self.leaf,
         };
@@ -94,7 +94,7 @@ impl<'a> Seal<'a> {
         requires { self.now.leaf < 1024 }
         ensures { (bytes : List ℕ) → IsSealOf bytes self.now → result ≡ candidate id.now text.now bytes }
     {
-        let node = Place {
+        let node = Node {
             id,
             number: LEAVES + self.leaf,
         };
@@ -103,13 +103,13 @@ impl<'a> Seal<'a> {
     }
 }
 
-fn message_hash(leaf: &Place<'_>, randomizer: &[u8; 32], text: &[u8]) -> [u8; 32]
+fn message_hash(leaf: &Node<'_>, randomizer: &[u8; 32], text: &[u8]) -> [u8; 32]
     ensures { result ≡ message_hash leaf.now.id.now leaf.now.number randomizer.now text.now }
 {
     hash(&leaf.front(D_MESG), randomizer, text)
 }
 
-fn leaf_of(node: &Place<'_>, key: &[u8; 32]) -> [u8; 32]
+fn leaf_of(node: &Node<'_>, key: &[u8; 32]) -> [u8; 32]
     ensures { result ≡ leaf node.now.id.now node.now.number key.now }
 {
     hash(&node.front(D_LEAF), key, &[])

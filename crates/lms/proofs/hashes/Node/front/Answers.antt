@@ -1,6 +1,6 @@
 use Rattle.std.proofs.Common.{◌∙◌, arith}
 use Rattle.lms.proofs.Laid.{laid_three, same_three}
-use Rattle.lms.proofs.hashes.Place.front.Goals as goal
+use Rattle.lms.proofs.hashes.Node.front.Goals as goal
 
 pub returns : goal.returns
 returns c =
