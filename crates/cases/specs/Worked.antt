@@ -89,6 +89,10 @@ slip = record { maker = 0; account = 0; number = 1 }
 abbrev pub once_more : List Call
 once_more = join ∷ countersign (encoded (docket_of P)) [] ∷ restart ∷ join ∷ []
 
+-- the same with no restart
+abbrev pub at_once : List Call
+at_once = join ∷ countersign (encoded (docket_of P)) [] ∷ []
+
 -- the table
 pub record WorkedCases : Type 0 where
   pub of_79_bytes : read_docket (replicate 79 0) ≡ Err (found layer.Docket cause.Malformed 79)
@@ -120,4 +124,8 @@ pub record WorkedCases : Type 0 where
   pub new_mark_then_s : countersigned (ends FailsNew ∷ []) once_more docket_s ≡ Err (found layer.Box cause.OtherMarked 0)
   pub old_mark_stays : countersigned (ends FailsOld ∷ []) (join ∷ []) (docket_of P) ≡ Err (found layer.Box cause.WriteFailed 0)
   pub old_mark_then_s : countersigned (ends FailsOld ∷ []) once_more docket_s ≡ Ok slip
+  pub p_then_s_at_once : countersigned [] at_once docket_s ≡ Err (found layer.Box cause.OtherMarked 0)
+  pub new_mark_then_p_at_once : countersigned (ends FailsNew ∷ []) at_once (docket_of P) ≡ Ok slip
+  pub new_mark_then_s_at_once : countersigned (ends FailsNew ∷ []) at_once docket_s ≡ Err (found layer.Box cause.OtherMarked 0)
+  pub old_mark_then_s_at_once : countersigned (ends FailsOld ∷ []) at_once docket_s ≡ Ok slip
   pub amount_2 : countersigned [] (join ∷ []) two_pallets ≡ Err (found layer.Box cause.NotCovered 0)

@@ -38,23 +38,30 @@ fn answer_to<S: MarkStore>(
     }
 }
 
-#[test]
-fn marks_outlive_a_restart(rt: HostRuntime) -> Result<(), Fail> {
+// A box beside a store whose first write ends so is asked for P, and then, at once or after a restart, for S and for P.
+fn ask_again(outcome: Outcome, restarts: bool) -> Result<[Option<(u8, usize)>; 3], Fail> {
     let p = one_pallet(0, 1);
     let s = one_pallet(0, 2);
+    let store = TableStore::new(0, &[outcome])?;
+    let mut ready = ReadyBox::join(cold_box(0, 1)?, store);
+    let first = answer_to(&mut ready, &p);
+    if restarts {
+        let (cold, store) = ready.restart();
+        ready = ReadyBox::join(cold, store);
+    }
+    Ok([first, answer_to(&mut ready, &s), answer_to(&mut ready, &p)])
+}
+
+#[test]
+fn marks_outlive_a_restart(rt: HostRuntime) -> Result<(), Fail> {
     let table = [
         (Outcome::Stands, None, None, Some((6, 0))),
         (Outcome::FailsNew, Some((14, 0)), None, Some((6, 0))),
         (Outcome::FailsOld, Some((14, 0)), Some((6, 0)), None),
     ];
     for (outcome, first, then_p, then_s) in table {
-        let store = TableStore::new(0, &[outcome])?;
-        let mut ready = ReadyBox::join(cold_box(0, 1)?, store);
-        assert!(rt; answer_to(&mut ready, &p) == first);
-        let (cold, store) = ready.restart();
-        let mut ready = ReadyBox::join(cold, store);
-        assert!(rt; answer_to(&mut ready, &s) == then_s);
-        assert!(rt; answer_to(&mut ready, &p) == then_p);
+        assert!(rt; ask_again(outcome, true)? == [first, then_s, then_p]);
+        assert!(rt; ask_again(outcome, false)? == [first, then_s, then_p]);
     }
     Ok(())
 }

@@ -43,16 +43,7 @@ started_box pool number f opening = record {
 unfoldable pub set_up : {State : Type 0} → ℕ → ℕ → ℕ → State → Result (BoxState State) Reading
 set_up pool number f opening =
     cond (in_range number f)
-    (Ok (record {
-      pool = pool;
-      number = number;
-      boxes = 3 * f + 1;
-      needed = 2 * f + 1;
-      opening = opening;
-      kept = opening;
-      current = opening;
-      accounts = replicate 64 fresh;
-    }))
+    (Ok (started_box pool number f opening))
     (refused cause.OutOfRange 0)
 
 -- restart: the book is at its opening again, every next number is 1 and no cell is filled

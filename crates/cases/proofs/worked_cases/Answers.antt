@@ -41,5 +41,9 @@ returns c = record {
   new_mark_then_s = refl;
   old_mark_stays = refl;
   old_mark_then_s = refl;
+  p_then_s_at_once = refl;
+  new_mark_then_p_at_once = refl;
+  new_mark_then_s_at_once = refl;
+  old_mark_then_s_at_once = refl;
   amount_2 = refl;
 }
