@@ -42,7 +42,8 @@ pub fn opening() -> PalletBook
     book
 }
 
-// A roll entry of a yard. Its party, length and text all differ from those of a box's, so nothing is left to share.
+// A roll entry of a yard. Its party, length and text differ from a box's; a shared one would take all three and be no
+// shorter.
 fn of_yard(docket: &Docket) -> [u8; 84]
     ensures { result ≡ yard_entry docket.now }
 {

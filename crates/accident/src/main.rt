@@ -134,8 +134,8 @@ fn hand_out<C: Checker>(
     Ok(())
 }
 
-// The boxes whose seals were gathered, in their order, and those seals end to end. Loops, since each step may want memory
-// and fail.
+// The boxes whose seals were gathered, in their order, and those seals end to end. Loops: of a chain that gives two bytes a
+// seal, the check does not know the whole list, and the two are plainest alike.
 fn signers_in(heap: Global, votes: &Votes) -> Result<Vec<Signer>, AllocError>
     ensures { IfOk result (λ v. v.items ≡ signers_in 4 votes.now.seals) }
 {

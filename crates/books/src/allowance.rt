@@ -7,7 +7,8 @@ ghost use Rattle.std.proofs.Common.{rules};
 use book::{Book, LAST_ACCOUNT};
 
 // The book below, and how many lines each account has made in its kept and in its current state.
-// At the opening no account has made a line, so those counts are not stored.
+// At the opening no account has made a line, so those counts are not stored. Kept and current are two fields as in the
+// pallet book, of fixed memory.
 #[derive(Drop)]
 pub struct Allowance<B> {
     below: B,
@@ -63,6 +64,7 @@ impl<B: Book> Book for Allowance<B> {
 
     ghost kinds = { Prim.search rules };
 
+    // of validity and next state alone, as the book's law
     ghost independence = { λ a. allowance_independent B.valid B.next (spent a.maximum no_lines (B.opening a.below)) (B.independence a.below) };
 
     fn lists(kind: u8) -> bool {

@@ -29,7 +29,7 @@ pub struct BallotQuestion {
 }
 
 // For each account a paper, with a choice or none for each topic: those kept and the current ones.
-// The opening has no votes, so it is not stored.
+// The opening has no votes, so it is not stored. Kept and current are two fields as in the pallet book, of fixed memory.
 #[derive(Drop)]
 pub struct BallotBook {
     kept: [[Option<u8>; 16]; 64],

@@ -6,7 +6,8 @@ ghost use Rattle.std.proofs.Common.{rules};
 
 use book::Book;
 
-// A question to one of the two.
+// A question to one of the two. No `Result`, since neither side is an error; a type beside the answer's, so that neither
+// is taken for the other.
 #[derive(Clone, Copy, Drop)]
 pub enum PairQuestion<Q, R> {
     First(Q),
@@ -62,6 +63,7 @@ impl<A: Book, B: Book> Book for Pair<A, B> {
 
     ghost kinds = { Prim.search rules };
 
+    // of validity and next state alone, as the book's law
     ghost independence = { λ p.
         pair_independent A.listed A.valid A.next B.valid B.next
         (both (A.opening p.first) (B.opening p.second))

@@ -25,7 +25,8 @@ pub(crate) fn head_end(bytes: &[u8]) -> usize
     }
 }
 
-// The certificate of which the head is given, and the length in all. It is read from the head alone.
+// The certificate of which the head is given, and the length in all. It is read from the head alone, which
+// is cut at a length that its own first byte tells: so the clauses here require lengths, and no array type could.
 pub(crate) fn read_head(
     boxes: u8,
     total: usize,

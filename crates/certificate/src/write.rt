@@ -59,7 +59,8 @@ fn row_of(signer: Signer, place: u32) -> [u8; 8]
     [signer.number, 0, s0, s1, p0, p1, p2, p3]
 }
 
-// Copies a head and the seals behind it to the start of the buffer.
+// Copies a head and the seals behind it to the start of the buffer. Both lengths are decided by the signers, so no array
+// type has them.
 pub(crate) fn put_all(out: &mut [u8], head: &[u8], seals: &[u8])
     requires { length head.now + length seals.now ≤ length out.old }
     ensures front { take (length head.now + length seals.now) out.new ≡ head.now ++ seals.now }

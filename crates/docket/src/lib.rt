@@ -66,7 +66,7 @@ impl Docket {
         Ok(())
     }
 
-    // The layout of the fields, whether they are well formed or not.
+    // The layout of the fields, whether they are well formed or not. A method and no `From`: this is the call's name.
     pub fn to_bytes(&self) -> [u8; 80]
         ensures value { result ≡ encoded self.now }
         ensures sized { Sized self.now }

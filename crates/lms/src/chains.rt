@@ -17,7 +17,8 @@ fn one_step(front: &[u8; 22], j: u8, value: &[u8; 32]) -> [u8; 32]
     digest(&input)
 }
 
-// From the value at `first` to the chain's end. Each step hashes its own number, so the loop counts it.
+// From the value at `first` to the chain's end. Each step hashes its own number, so the loop counts it; a
+// fold was tried, and its proof did not close.
 fn chain_end(front: &[u8; 22], first: u8, start: [u8; 32]) -> [u8; 32]
     ensures { result ≡ chained front.now first 255 start }
 {

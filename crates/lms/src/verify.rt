@@ -7,7 +7,7 @@ use super::chains::{digits_of, one_time_key};
 use super::hashes::{D_LEAF, D_MESG, Node, hash};
 use super::tree::climb;
 
-// SHA-256 at height 10, and at W8.
+// SHA-256 at height 10, and at W8: numbers, as the byte format has them.
 const LMS_TYPE: u32 = 6;
 
 const ONE_TIME_TYPE: u32 = 4;

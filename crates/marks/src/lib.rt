@@ -57,7 +57,8 @@ pub fn is_well_formed(docket: &Docket) -> bool
     docket.write(&mut bytes).is_ok()
 }
 
-// Puts the bytes of a mark, if there is one, into the buffer, as `read` answers. Public, as every store reads so.
+// Puts the bytes of a mark, if there is one, into the buffer, as `read` answers, by the same rule of the project. Public, as
+// every store reads so.
 pub fn give(mark: Option<Docket>, out: &mut [u8; 80]) -> bool
     ensures answer { result ≡ read_answer mark }
     ensures buffer { out.new ≡ read_buffer mark out.old }

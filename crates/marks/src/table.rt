@@ -4,7 +4,7 @@ ghost use Rattle.marks.specs.Marks.{Marked};
 use crate::row::Row;
 use docket::Docket;
 
-// Every mark is a well-formed docket of its account.
+// Every mark is a well-formed docket of its account. The memory is fixed.
 #[derive(Clone, Copy)]
 pub struct TableStore {
     pub(crate) owner: u8,

@@ -88,6 +88,7 @@ fn the_longest_row(rt: HostRuntime) -> Result<(), Fail> {
     let Err(fault) = TableStore::new(0, &[Outcome::Stands; 65]) else {
         return Err(Fail::new("a row of 65"));
     };
+    // the number, as users are told it, here and below
     assert_eq!(rt; fault.refusal().number(), 18);
     Ok(())
 }

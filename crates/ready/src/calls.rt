@@ -1,5 +1,6 @@
-// What a ready box does as a cold one does: it takes certificates and reports. Each call is passed on by a method: a
-// caller that got at the cold box could exchange it under its store.
+// What a ready box does as a cold one does: it takes certificates and reports. Each call is passed on by a method: `take`
+// may not lend the cold box out, since a caller could exchange it under its store, and a `Deref` for three reports is no
+// plainer.
 ghost use Rattle.std.specs.Prelude.{◌≡◌, is_some, OnOk};
 ghost use Rattle.refusals.specs.Reading.{judged};
 ghost use Rattle.settling.specs.Books.{Level, NoneSettles};

@@ -71,7 +71,7 @@ impl<B: Book, C: Checker, S: MarkStore> ReadyBox<B, C, S> {
     }
 }
 
-// Whether a docket is this mark of its account.
+// Whether a docket is this mark of its account. Tests one after another, since each refusal ends it.
 fn is_same_mark(mark: &Docket, docket: &Docket) -> Result<bool, BoxFault>
     ensures { (covers : Finding) → stood docket.now covers (judged box_reading result) ≡ by_mark docket.now covers (Some mark.now) }
 {

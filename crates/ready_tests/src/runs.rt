@@ -139,7 +139,7 @@ fn certify(rt: &impl Abort, docket: &Docket, out: &mut [u8; 165]) -> Result<(), 
 }
 
 // One of four dockets of which each passes on the pallet that the one before brings: from account 0 to 8, from 8 to 9
-// and so on. The index is a place in that chain.
+// and so on. The index is a place in that chain, as the orders are written; cases with names would be no plainer.
 fn link(index: u8) -> Docket {
     match index {
         0 => one_pallet(0, 8),

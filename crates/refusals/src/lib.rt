@@ -22,7 +22,7 @@ pub enum Layer {
     Box,
 }
 
-// Printed by hand, as the cause below: the derive would make an error of it, which it is not.
+// Printed by hand, as the cause and the refusal below: the derive would make errors of them, which they are not.
 impl fmt::Display for Layer {
     fn fmt<W: fmt::Write>(&self, f: &mut fmt::Formatter<W>) -> fmt::Result {
         f.write_str(match self {

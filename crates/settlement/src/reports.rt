@@ -34,7 +34,8 @@ impl<B: Book, C: Checker> ColdBox<B, C> {
     }
 
     // Writes the account's waiting docket of a number into the buffer. Where there is none, and above account 63,
-    // the answer is no and the buffer is left alone. A yes or no beside the caller's buffer is a rule of the project.
+    // the answer is no and the buffer is left alone. A yes or no beside the caller's buffer is a rule of the project;
+    // the like of it in `marks` stands in a crate on which this one does not stand.
     pub fn waiting(&self, account: u8, number: u64, out: &mut [u8; 80]) -> bool
         ensures answer { result ≡ is_some (waiting_docket (state_of B.Book self.now) account number) }
         ensures buffer { out.new ≡ reported (waiting_docket (state_of B.Book self.now) account number) out.old }

@@ -3,7 +3,7 @@ ghost use Rattle.settling.specs.Window.{Bounded};
 
 use crate::account::Account;
 
-// No number passes the greatest that a docket may have.
+// No number passes the greatest that a docket may have. The memory is fixed.
 #[derive(Clone, Copy)]
 pub struct Accounts {
     pub(crate) rows: [Account; 64],

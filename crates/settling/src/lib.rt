@@ -86,7 +86,7 @@ impl Accounts {
         if docket.number > 1 << 40 {
             return false;
         }
-        // by its index: of what get_mut lends, a proof knows nothing but that it is there
+        // by its index: `get_mut` was tried, and the clause did not close, since of what it lends a proof knows nothing
         let account = self.get(docket.account).with(docket);
         let at = docket.account as usize;
         if at < 64 {
@@ -108,7 +108,7 @@ impl Accounts {
 
 // Makes a docket's lines in the book, one after another, until one is not valid: its index. There is none where the
 // docket is covered. What the book keeps stays. A loop, since of what a `position` leaves whose closure changes the
-// book, a proof knows only that its calls ran.
+// book, a proof knows only that its calls ran, and an invariant on what it changes would be no plainer.
 #[tactic(auto, unfolding(crate::specs::Settle::uncovered))]
 pub fn apply_lines<B: Book>(book: &mut B, docket: &Docket) -> Option<usize>
     ensures answer { result ≡ uncovered_in B.Book book.old docket.now }

@@ -160,7 +160,8 @@ fn one_turn(state: [u32; 8], by: (&u32, &u32)) -> [u32; 8]
     [t1.wrapping_add(t2), a, b, c, d.wrapping_add(t1), e, f, g]
 }
 
-// Eight turns to a call, so that no word has to move from place to place: one at a time is slower by a seventh.
+// Eight turns to a call, so that no word has to move from place to place: one at a time runs at 0.86
+// of the speed of plain Rust, below the bar of 0.95.
 fn eight_turns(state: [u32; 8], by: (&[u32; 8], &[u32; 8])) -> [u32; 8]
     ensures { result ≡ turned state (zip by.entry.0.now by.entry.1.now) }
 {

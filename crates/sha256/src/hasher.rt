@@ -110,6 +110,7 @@ fn fold_blocks(start: [u32; 8], bytes: &[u8]) -> [u32; 8]
     blocks.iter().fold(start, compress)
 }
 
+// The digest's bytes. Between the library's arrays there is no `From` to give them.
 fn to_bytes(words: [u32; 8]) -> [u8; 32]
     ensures { result ≡ bytes_of words }
 {

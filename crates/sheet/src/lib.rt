@@ -56,7 +56,8 @@ impl<'a> Parts<'a> {
     }
 }
 
-// How many records the head counts.
+// How many records the head counts. Here and below a length is required of bytes where `Parts`, which only lends, would
+// not serve: where they are about to be taken apart or written.
 fn count(bytes: &[u8]) -> usize
     requires { 4 ≤ length bytes.now }
     ensures { result ≡ count_of bytes.now }

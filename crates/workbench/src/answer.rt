@@ -11,6 +11,7 @@ pub enum Answer {
     Refused(Cause),
 }
 
+// By hand: the derive would make an error of it, which it is not.
 impl fmt::Display for Answer {
     fn fmt<W: fmt::Write>(&self, f: &mut fmt::Formatter<W>) -> fmt::Result {
         match self {
