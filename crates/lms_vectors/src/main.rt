@@ -73,13 +73,11 @@ fn obey(rt: &HostRuntime, desk: &mut Desk, command: Command<'_>) -> anyhow::Resu
             desk.whole = from_hex(heap, seal.as_bytes())?;
             desk.seal = desk.whole.clone()?;
         }
-        Command::Put(at, part) => {
-            put(
-                desk.seal.as_mut_slice(),
-                at,
-                from_hex(heap, part.as_bytes())?.as_slice(),
-            );
-        }
+        Command::Put(at, part) => put(
+            desk.seal.as_mut_slice(),
+            at,
+            from_hex(heap, part.as_bytes())?.as_slice(),
+        ),
         Command::Cut(n) => desk.seal.truncate(n),
         Command::Check => check(rt, desk)?,
         Command::Times(n) => {
