@@ -1,10 +1,12 @@
 // The docket: a numbered, sealed transaction of one account, and its 80 bytes.
 #![tactic(auto)]
 
-ghost use Rattle.std.specs.Prelude.{◌≡◌, ◌+◌, ◌*◌, length, take, drop, IfOk, Ok, OnOk};
+ghost use Rattle.std.specs.Prelude.{◌≡◌, ◌+◌, ◌*◌, length, take, drop, IfOk, Ok, Decides, OnOk};
 ghost use Rattle.refusals.specs.Reading.{judged};
 ghost use Rattle.docket.specs.Faults.{docket_reading};
-ghost use Rattle.docket.specs.Layout.{wrong_line, wrong_place, decoded, encoded, Sized, read_docket, write_answer, write_buffer, used_lines};
+ghost use Rattle.docket.specs.Layout.{wrong_line, wrong_place, decoded, encoded, Sized, read_docket, write_answer, write_buffer, used_lines, same_fields};
+ghost use Rattle.std.specs.Cmp.Rules.{comparing};
+ghost use Rattle.std.proofs.Common.{rules};
 
 pub mod faults;
 
@@ -18,7 +20,7 @@ const LAST_ACCOUNT: u8 = 63;
 const LAST_NUMBER: u64 = 1 << 40;
 
 // A docket value has plain fields, so that a malformed one can be handed to the writer.
-#[derive(Clone, Copy, PartialEq, Eq, Debug)]
+#[derive(Clone, Copy, Debug)]
 pub struct Docket {
     // The pool that it is meant for.
     pub pool: u32,
@@ -30,6 +32,30 @@ pub struct Docket {
     pub number: u64,
     // Its lines, the claims that it makes on the book; those past the count are zero.
     pub lines: [[u8; 16]; 4],
+}
+
+// Two dockets are equal where all their fields are. By hand, since a derived `eq` has the trait's clause alone, and not
+// the fact that it decides equality.
+impl PartialEq for Docket {
+    ghost eq = { same_fields };
+
+    ghost laws = { Prim.search (comparing, rules) depth 14 };
+
+    #[tactic(auto, using(crate::proofs::RoundTrip::fields_decide))]
+    fn eq(&self, other: &Docket) -> bool
+        ensures answer { result ≡ same_fields self.now other.now }
+        ensures same { Decides result (self.now ≡ other.now) }
+    {
+        self.pool == other.pool
+            && self.account == other.account
+            && self.count == other.count
+            && self.number == other.number
+            && self.lines == other.lines
+    }
+}
+
+impl Eq for Docket {
+    ghost laws = { Prim.search (comparing, rules) depth 14 };
 }
 
 impl Docket {

@@ -1,27 +1,13 @@
 -- Outcomes in the cells of a row. Assumes nothing.
-use Rattle.std.proofs.Common.{◌≡◌, ℕ, zero, suc, ◌+◌, ◌<◌, ◌≤◌, List, [], ◌∷◌, ◌++◌, map, length, drop, take, set, get_or, Some, None, Option, refl, ap, sym, ◌∙◌, subst, arith}
+use Rattle.std.proofs.Common.{◌≡◌, ℕ, zero, suc, ◌+◌, ◌<◌, ◌≤◌, List, [], ◌∷◌, map, length, get_or, Some, None, Option, refl, ap, sym, ◌∙◌, subst, arith}
 use denote.Param.Members.{Mut}
 use Rattle.std.specs.Fn.{Called}
 use Rattle.std.specs.List.{slice_get}
 use Rattle.std.specs.Array.{IsFromFnResult, IsFromFnResultFrom}
 use Rattle.marks.specs.Kept.{some_not_none}
-use Rattle.marks.specs.Outcomes.{ends, rest_of_row}
+use Rattle.marks.specs.Outcomes.{ends}
 use Rattle.marks.specs.Rows.{filled}
 use Rattle.marks.specs.declared.outcome.Outcome.{Outcome}
-
--- an empty cell behind the others adds nothing
-filled_more : (cells : List (Option Outcome)) → filled (cells ++ None ∷ []) ≡ filled cells
-filled_more [] = refl
-filled_more (None ∷ cells) = refl
-filled_more (Some outcome ∷ cells) = ap (λ rest. outcome ∷ rest) (filled_more cells)
-
--- the first cell is emptied and moved behind the others
-pub filled_rest :
-    (cells : List (Option Outcome)) (outcome : Outcome) (empty : Option Outcome) → get_or cells 0 None ≡ Some outcome → empty ≡ None
-    → map ends (filled (drop 1 (set cells 0 empty) ++ take 1 (set cells 0 empty))) ≡ rest_of_row (map ends (filled cells))
-filled_rest [] outcome empty e n = absurd (some_not_none outcome e)
-filled_rest (None ∷ cells) outcome empty e n = absurd (some_not_none outcome e)
-filled_rest (Some first ∷ cells) outcome empty e n = ap (λ x. map ends (filled (cells ++ x ∷ []))) n ∙ ap (map ends) (filled_more cells)
 
 -- cells that hold the elements of a list at their places, and none past its end
 filled_is : (xs : List Outcome) (cells : List (Option Outcome)) → length xs ≤ length cells → ((k : ℕ) → k < length cells → get_or cells k None ≡ slice_get xs k) → filled cells ≡ xs

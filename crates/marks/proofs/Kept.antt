@@ -1,7 +1,7 @@
 -- What tables of marks hold, and keep. Assumes nothing.
 use Rattle.std.proofs.Common.{◌≡◌, ℕ, zero, suc, ◌+◌, ◌≤◌, Bool, true, false, cond, not, ltb, List, [], ◌∷◌, length, get_or, replicate, set, refl, sym, ap, ◌∙◌, subst, inl, inr, arith, Some, None, Ok, Err}
 use Rattle.std.specs.Prelude.{is_some, IfSome, is_ok, Option, Result, OnOk, nat_lt}
-use Rattle.std.proofs.lemmas.List.{length-set, get_or-replicate, get_or_past, length-replicate, take_at}
+use Rattle.std.proofs.lemmas.List.{length-set, get_or-replicate, get_or_past, length-replicate}
 use Rattle.std.proofs.lemmas.Bool.{and_parts, and_from, eq-eqb, le-ltb, cases_lt, false≢true}
 use Rattle.refusals.specs.Reading.{Reading, found, and_then, judged}
 use Rattle.refusals.specs.declared.Layer.TheVariants as layer

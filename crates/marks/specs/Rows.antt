@@ -1,5 +1,5 @@
 -- A row of outcomes as it is stored.
-use Rattle.std.specs.Prelude.{List, [], ◌∷◌, map, Some, None, Option}
+use Rattle.std.specs.Prelude.{List, [], ◌∷◌, map, drop, Some, None, Option}
 use Rattle.marks.specs.Outcomes.{End, ends}
 use Rattle.marks.specs.declared.outcome.Outcome.{Outcome}
 use Rattle.marks.specs.declared.row.Row.{Row}
@@ -12,4 +12,4 @@ filled (Some outcome ∷ cells) = outcome ∷ filled cells
 
 -- how the writes to come end
 abbrev pub coming : Row → List End
-coming row = map ends (filled row.cells)
+coming row = map ends (filled (drop row.next row.cells))

@@ -53,6 +53,7 @@ impl Row {
                     ensures { result ≡ slice_get outcomes.entry.now i }
                 { outcomes.get(i).copied() },
             ),
+            next: 0,
         })
     }
 
@@ -61,10 +62,11 @@ impl Row {
         ensures answer { result ≡ next_outcome (coming self.old) }
         ensures row { coming self.new ≡ rest_of_row (coming self.old) }
     {
-        let Some(outcome) = self.cells[0].take() else {
+        let Some(Some(outcome)) = self.cells.get(self.next) else {
             return Outcome::Stands;
         };
-        self.cells.rotate_left(1);
+        let outcome = *outcome;
+        self.next += 1;
         outcome
     }
 }

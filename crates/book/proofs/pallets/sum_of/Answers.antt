@@ -1,8 +1,12 @@
-use Rattle.std.proofs.Common.{rules, arith}
-use Rattle.std.proofs.lemmas.Iterator.{YieldsList-from_slice}
-use Rattle.std.proofs.lemmas.Iterator.Adapters.{fits_from_length, at_most_from_yields_List}
+use Rattle.std.proofs.Common.{ℕ, sum, ap, ◌∙◌, arith}
+use Rattle.std.proofs.lemmas.List.{take_all}
+use Rattle.std.proofs.lemmas.List.Sums.{sum_by_more}
 use Rattle.book.proofs.pallets.sum_of.Goals as goal
 
-pub sum-requires-clause-fits : goal.sum-requires-clause-fits
-sum-requires-clause-fits c =
-    fits_from_length _ _ 64 340282366920938463463374607431768211456 (at_most_from_yields_List (YieldsList-from_slice c.args.balances.now (cc)) (omega arith)) c.map.ensures.closure (omega arith) (λ x r q k. search rules)
+pub loop-balance-preserved : goal.loop-balance-preserved
+loop-balance-preserved c =
+    let more = sum_by_more (λ (x : ℕ). x) c.args.balances.now c.loop-balance.balance-index 0 (omega arith) in
+    (omega arith, omega (arith, c.fits-balances c.loop-balance.balance-index))
+
+pub returns : goal.returns
+returns c = c.loop-balance.invariant.0 ∙ ap sum (take_all c.loop-balance.balance-index c.args.balances.now (omega arith))
